@@ -9,7 +9,8 @@ blobs are counted by the second, beside the syncs of a journal alone: two for ea
 clients, in which each sends a request before any reads its reply. A request that changes nothing waits beside uploads of
 four times SIZE: its longest wait, and the longest of a sync beside the same. A start is that of a server with a directory
 that has eight blobs of SIZE, in one body each or in chunks of 4 MiB. `blobd compact` has twenty times COUNT small blobs,
-and is measured beside a start with them; `--starts` measures no more than starts and that. Needs Linux.
+or eight of SIZE in one body each, and is measured beside a start with them; `--starts` measures no more than starts and
+that. Needs Linux.
 """
 import contextlib
 import functools
@@ -208,16 +209,21 @@ def waited(settings, blob):
     return min(best)
 
 
+def large_blobs(blob, chunk, server):
+    """Has a new server get blobs of this size, each sent in chunks of that size."""
+    with server, server.connect() as connection:
+        for _ in range(BEFORE_A_START):
+            # another one: a start would remove what was sent of one that is there
+            blob.write()
+            loopback.upload(connection, "lib/a", blob, chunk)
+
+
 def started(settings, blob, chunk):
     """A start with blobs of this size, each sent in chunks of that size: the bytes that it reads in a second, and
     `sha256sum`'s in the same run."""
     with tempfile.TemporaryDirectory(dir=OPTIONS.folder) as folder:
         server = OnDisk(settings, folder)
-        with server, server.connect() as connection:
-            for _ in range(BEFORE_A_START):
-                # another one: a start would remove what was sent of one that is there
-                blob.write()
-                loopback.upload(connection, "lib/a", blob, chunk)
+        large_blobs(blob, chunk, server)
         best = []
         for _ in range(OPTIONS.runs):
             taken = loopback.seconds(lambda: server.__enter__())
@@ -226,11 +232,11 @@ def started(settings, blob, chunk):
     return max(best)
 
 
-def compacted(settings, count):
-    """A compaction of a directory with so many small blobs: how long a start with them takes in the same run, and it."""
+def compacted(settings, fill):
+    """A compaction of a directory that a server was filled with: how long it takes, and a start with it in the same run."""
     with tempfile.TemporaryDirectory(dir=OPTIONS.folder) as folder:
         server = OnDisk(settings, folder)
-        small_blobs(count, CROWD, server)
+        fill(server)
         best = []
         for number in range(OPTIONS.runs):
             copy = os.path.join(folder, f"copy-{number}")
@@ -271,8 +277,12 @@ def all_lines(settings, all_, blob):
     for name, chunk in (("a start", blob.size), ("a start with chunks", CHUNK)):
         read, plain = started(settings, blob, chunk)
         yield [name, OnDisk.name, f"{read / 1e6:,.0f} MB/s", f"{read / plain:.2f} of `sha256sum`"]
+    taken, start = compacted(settings, functools.partial(large_blobs, blob, blob.size))
+    beside = f"{taken / start:.2f} of a start with them"
+    speed = f"{BEFORE_A_START * blob.size / taken / 1e6:,.0f} MB/s"
+    yield [f"a compaction of {BEFORE_A_START} blobs", "blobd compact", speed, beside]
     count = COMPACTED * OPTIONS.blobs
-    taken, start = compacted(settings, count)
+    taken, start = compacted(settings, functools.partial(small_blobs, count, CROWD))
     beside = f"{taken / start:.2f} of a start with them"
     yield [f"a compaction of {count} small blobs", "blobd compact", f"{count / taken:,.0f} a second", beside]
 
@@ -303,5 +313,5 @@ if __name__ == "__main__":
     parser.add_argument("--runs", type=int, default=3, help="how often each is measured (%(default)s)")
     parser.add_argument("--starts", action="store_true", help="measure starts alone")
     parser.parse_args(namespace=OPTIONS)
-    OPTIONS.program = os.path.abspath(OPTIONS.program)
+    OPTIONS.program, OPTIONS.folder = map(os.path.abspath, (OPTIONS.program, OPTIONS.folder))
     main(servers.MALLOC)

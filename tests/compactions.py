@@ -160,6 +160,34 @@ def what_is_refused(folder):
     equal("nothing is made", (os.listdir(empty), os.path.exists(os.path.join(folder, "nothing"))), ([], False))
 
 
+@case()
+def many_in_one_body(folder):
+    """Blobs in one body each, which are read in another order from the new journal. If one of them is damaged, nothing
+    is changed."""
+    path = os.path.join(folder, "data")
+    blobs = [content(100 + at, 70_000 + 1_000 * at) for at in range(40)]
+    with serving(path) as server, server.client() as client:
+        equal("blobs", [client.push(NAME, blob, MIB)[-1] for blob in blobs], [201] * 40)
+        # once more, which names them a second time
+        equal("of another", [client.push("lib/b", blob, MIB)[-1] for blob in blobs[::3]], [201] * 14)
+    body = os.path.join(path, max(name for name in files(path) if name.startswith("bodies/")))
+    with open(body, "r+b") as file:
+        first = file.read(1)
+        file.seek(0)
+        file.write(bytes([first[0] ^ 1]))
+    before = files(path)
+    told, status, _ = run("compact", path)
+    equal("a damaged one", (told, status, files(path) == before), (*REFUSED, True))
+    with open(body, "r+b") as file:
+        file.write(first)
+    told, status, more = run("compact", path)
+    equal("a compaction", (status, more), (0, ""))
+    check("it says what went", told.endswith(" 14 files went\n"), told)
+    with serving(path) as server:
+        equal("the blobs", [pull(server, NAME, sha256(blob)) == blob for blob in blobs], [True] * 40)
+        equal("those of another", [pull(server, "lib/b", sha256(blob)) == blob for blob in blobs[::3]], [True] * 14)
+
+
 # Blobs of repositories that a list refers to, of those that `filled` stores.
 KEPT = {
     *((NAME, sha256(BLOBS[at][0])) for at in (0, 3, 5)),

@@ -4,6 +4,7 @@ ghost use Rattle.bodies.specs.Reader.{bytes_of};
 ghost use Rattle.std.specs.Prelude.{[]};
 
 use crate::fault::BodyFault;
+use crate::hint::Hint;
 use crate::lending::Lends;
 use crate::shelf::Shelf;
 use crate::unnamed::{Synced, Unnamed};
@@ -13,27 +14,30 @@ use std::collections::VecDeque;
 use std::io;
 use std::thread::{self, JoinHandle, Threads};
 use upload_bytes::Body;
-use upload_names::Algorithm;
 
 /// The stack of a thread that reads, in bytes.
 const STACK: usize = 262_144;
 
-/// A body that is likely to be asked for. Nothing rests on it but the time that its reader takes.
-#[derive(Clone, Copy, Debug, PartialEq, Eq)]
-pub struct Hint {
-    /// The number of its file.
-    pub number: u64,
-    /// How many bytes it has.
-    pub len: u64,
-    /// What it will be hashed by, if its hash alone is of use.
-    pub hashed: Option<Algorithm>,
+/// A body that a thread reads. It is let go once the thread has ended: what a thread has read stays in memory if nobody
+/// takes it.
+struct UnderWay<'a, R: Threads> {
+    rt: &'a R,
+    hint: Hint,
+    /// None once what it has read is taken.
+    thread: Option<JoinHandle<Option<Whole>>>,
 }
 
-/// A body that a thread reads.
-#[derive(Drop)]
-struct UnderWay {
-    hint: Hint,
-    thread: JoinHandle<Option<Whole>>,
+impl<'a, R: Threads> Drop for UnderWay<'a, R> {
+    fn drop(self) {
+        let Self {
+            rt,
+            hint: _hint,
+            thread,
+        } = self;
+        if let Some(thread) = thread {
+            let _ = thread.join(rt);
+        }
+    }
 }
 
 /// A shelf whose bodies are read before they are asked for, each in a thread of its own: so many at a time as there are
@@ -43,11 +47,11 @@ pub struct AheadShelf<'a, R: Threads, S: Lends> {
     rt: &'a R,
     alloc: Global,
     inner: S,
-    /// What is likely to be asked for, by rising numbers.
+    /// What is likely to be asked for, in this order.
     hints: Vec<Hint>,
     /// How many of these are begun, or given up.
     begun: usize,
-    under_way: VecDeque<UnderWay>,
+    under_way: VecDeque<UnderWay<'a, R>>,
     /// How many bytes the bodies have that are under way.
     ahead: u64,
     /// So many may be under way.
@@ -59,8 +63,8 @@ pub struct AheadShelf<'a, R: Threads, S: Lends> {
 impl<'a, R: Threads, S: Lends> AheadShelf<'a, R, S> {
     ghost use Rattle.bodies.specs.AheadShelf.{inner_of};
 
-    /// Reads ahead what the hints tell, which go by rising numbers: bodies of up to `most_ahead` bytes together, and one
-    /// more. Others are read as they are asked for.
+    /// Reads ahead what the hints tell, in their order: bodies of up to `most_ahead` bytes together, and one more. Others
+    /// are read as they are asked for.
     pub fn new(
         rt: &'a R,
         alloc: Global,
@@ -93,44 +97,21 @@ impl<'a, R: Threads, S: Lends> AheadShelf<'a, R, S> {
         shelf.inner
     }
 
-    /// Lets go of the bodies before a number.
+    /// Lets go of the bodies before this one, if it is under way.
     fn drop_before(&mut self, number: u64)
         ensures { inner_of self.new ≡ inner_of self.old }
     {
-        for _ in 0..self.under_way.len() {
-            match self.under_way.front() {
-                Some(first) if first.hint.number < number => {}
-                _ => return,
-            }
-            self.drop_first();
-        }
-    }
-
-    /// Lets go of the first body that is under way, once its thread has ended: what a thread has read stays in memory if
-    /// nobody takes it.
-    fn drop_first(&mut self)
-        ensures { inner_of self.new ≡ inner_of self.old }
-    {
-        if let Some(UnderWay { thread, .. }) = self.pop() {
-            let _ = thread.join(self.rt);
-        }
-    }
-
-    /// Passes over the hints before a number.
-    fn skip_before(&mut self, number: u64)
-        ensures { inner_of self.new ≡ inner_of self.old }
-    {
-        for _ in self.begun..self.hints.len() {
-            match self.hints.get(self.begun) {
-                Some(hint) if hint.number < number => {}
-                _ => return,
-            }
-            self.begun = self.begun.saturating_add(1);
+        let place = self
+            .under_way
+            .iter()
+            .position(|begun| begun.hint.number == number);
+        for _ in 0..place.unwrap_or(0) {
+            let _ = self.pop();
         }
     }
 
     /// The first body that is under way.
-    fn pop(&mut self) -> Option<UnderWay>
+    fn pop(&mut self) -> Option<UnderWay<'a, R>>
         ensures { inner_of self.new ≡ inner_of self.old }
     {
         let first = self.under_way.pop_front()?;
@@ -173,7 +154,11 @@ impl<'a, R: Threads, S: Lends> AheadShelf<'a, R, S> {
         else {
             return;
         };
-        let begun = UnderWay { hint, thread };
+        let begun = UnderWay {
+            rt: self.rt,
+            hint,
+            thread: Some(thread),
+        };
         if self.under_way.push_back(begun).is_ok() {
             self.ahead = self.ahead.saturating_add(hint.len);
         }
@@ -184,16 +169,8 @@ impl<'a, R: Threads, S: Lends> AheadShelf<'a, R, S> {
         ensures { inner_of self.new ≡ inner_of self.old }
     {
         self.begun = self.hints.len();
-        self.drop_all();
-    }
-
-    /// Lets go of all that is under way.
-    fn drop_all(&mut self)
-        ensures { inner_of self.new ≡ inner_of self.old }
-    {
-        for _ in 0..self.under_way.len() {
-            self.drop_first();
-        }
+        self.under_way.clear();
+        self.ahead = 0;
     }
 
     /// What a thread has read of this number.
@@ -204,8 +181,8 @@ impl<'a, R: Threads, S: Lends> AheadShelf<'a, R, S> {
             Some(first) if first.hint.number == number => {}
             _ => return None,
         }
-        let first = self.pop()?;
-        let UnderWay { thread, .. } = first;
+        let mut first = self.pop()?;
+        let thread = first.thread.take()?;
         thread.join(self.rt)
     }
 }
@@ -261,10 +238,15 @@ impl<'a, R: Threads, S: Lends> Shelf for AheadShelf<'a, R, S> {
         self.inner.remove(number)
     }
 
+    fn take_hints(&mut self, hints: Vec<Hint>) {
+        self.forget();
+        self.hints = hints;
+        self.begun = 0;
+    }
+
     fn ready(&mut self, number: u64) -> Option<Body> {
-        self.drop_before(number);
-        self.skip_before(number);
         self.read_on();
+        self.drop_before(number);
         let whole = self.take(number)?;
         if whole.reader.number() != number {
             return None;

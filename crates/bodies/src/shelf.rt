@@ -8,6 +8,7 @@ ghost use Rattle.bodies.specs.Unnamed.{body_of};
 ghost use Rattle.bodies.specs.declared.fault.BodyFault.TheVariants.{Taken, Missing};
 
 use crate::fault::BodyFault;
+use crate::hint::Hint;
 use crate::unnamed::{Synced, Unnamed};
 use sqlite_disk::Disk;
 use std::alloc::Global;
@@ -124,6 +125,17 @@ pub trait Shelf {
         ensures usable { is_usable self.new ≡ is_usable self.old }
         ensures faults { faults self.old ≤ faults self.new }
         ensures clean { IsClean self.new → IsClean self.old };
+
+    /// Takes word of the bodies that it will be asked for from now on, in this order. A shelf that reads nothing ahead has
+    /// no use for that.
+    fn take_hints(&mut self, hints: Vec<Hint>)
+        ensures same { KeepsAll held may_leave self.old self.new }
+        ensures usable { is_usable self.new ≡ is_usable self.old }
+        ensures faults { faults self.new ≡ faults self.old }
+        ensures clean { IsClean self.new → IsClean self.old }
+    {
+        let _ = hints;
+    }
 
     /// The body of this number, if all of it was read already. It may carry its hash. A shelf that reads nothing ahead
     /// has none.

@@ -12,21 +12,28 @@ use Rattle.upload_store.specs.Runs.{IsReplayOf, start_of}
 use Rattle.upload_store.specs.Reading.{ReadsOnly}
 use Rattle.upload_store.specs.Store.{IsClean, journal_of, shelf_of, kept_of, limits_of}
 use Rattle.upload_store.specs.declared.store.Store.{Store}
+use Rattle.upload_store.proofs.Reading.{reads_then}
 use Rattle.upload_compact.specs.Same.{LeadsTo, moment_of}
 
 module _ {S : Type 0} (held : S → ℕ → Option (List ℕ)) (may_leave : S → ℕ → Option (List ℕ) → Type 0)
     (IsClean : S → Type 0) where
   -- a shelf that was only read has the same files
-  pub led : (limits old_limits : Limits) (all old_all : List Kept) (shelf before after : S) (point : Point)
-      → old_limits ≡ limits → old_all ≡ all → before ≡ shelf → ReadsOnly held may_leave IsClean before after
+  pub led : (limits old_limits : Limits) (all old_all : List Kept) (shelf after : S) (point : Point)
+      → old_limits ≡ limits → old_all ≡ all → ReadsOnly held may_leave IsClean shelf after
       → IsReplayOf old_all (held after) (start_of (empty_state old_limits 0)) point
       → LeadsTo limits all (held shelf) point
-  led limits old_limits all old_all shelf before after point same_limits same_all same_shelf reads ran =
+  led limits old_limits all old_all shelf after point same_limits same_all reads ran =
       subst (λ (l : Limits). IsReplayOf all (held shelf) (start_of (empty_state l 0)) point) same_limits
       (subst (λ (k : List Kept). IsReplayOf k (held shelf) (start_of (empty_state old_limits 0)) point) same_all
-      (subst (λ (s : S). IsReplayOf old_all (held s) (start_of (empty_state old_limits 0)) point) same_shelf
       (subst (λ (f : ℕ → Option (List ℕ)). IsReplayOf old_all f (start_of (empty_state old_limits 0)) point)
-      (λ i n. (reads.all.each n).same i) ran)))
+      (λ i n. (reads.all.each n).same i) ran))
+
+  -- a store over a shelf that was told something, and then read
+  pub opened_reads : (shelf told before after : S) → ReadsOnly held may_leave IsClean shelf told → before ≡ told
+      → ReadsOnly held may_leave IsClean before after → ReadsOnly held may_leave IsClean shelf after
+  opened_reads shelf told before after one same two =
+      reads_then held may_leave IsClean shelf told after one
+      (subst (λ (s : S). ReadsOnly held may_leave IsClean s after) same two)
 
 module _ {D S F : Type 0} {g : Ghosts D} {s : shelves.Ghosts S F} {f : Ghosts F} where
   -- a store that was verified, in its parts

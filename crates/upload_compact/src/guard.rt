@@ -6,7 +6,9 @@ ghost use Rattle.upload_store.specs.Found.{entry_numbers, numbers_of, texts_of};
 ghost use Rattle.upload_compact.specs.Numbers.{Has};
 ghost use Rattle.upload_compact.specs.Guards.{Allows};
 
+use crate::hints::add_hint;
 use crate::numbers::{Numbers, files_in};
+use bodies::Hint;
 use journal::{Error, Journal, Machine};
 use sqlite_disk::Disk;
 use std::alloc::Global;
@@ -21,6 +23,17 @@ pub struct Guard {
     safe: Numbers,
     /// Those that are.
     named: Numbers,
+    /// Which bodies a replay asks for, in order.
+    hints: Vec<Hint>,
+}
+
+/// What the records of a journal name.
+#[derive(Drop)]
+pub struct Named {
+    /// How many files they name.
+    pub files: usize,
+    /// Which bodies a replay of them asks for, in order.
+    pub hints: Vec<Hint>,
 }
 
 impl Guard {
@@ -34,6 +47,7 @@ impl Guard {
             return Err(ErrorKind::InvalidData.into());
         }
         self.named.add_files(files)?;
+        add_hint(&mut self.hints, entry);
         Ok(())
     }
 }
@@ -52,15 +66,15 @@ impl Machine for Guard {
     }
 }
 
-/// Sees that the records of a journal name no other files than these, and says how many they name. The journal is
-/// recovered for that, as `Journal::recover` does.
+/// Sees that the records of a journal name no other files than these, and says what they name. The journal is recovered
+/// for that, as `Journal::recover` does.
 ///
 /// An error is one of `Journal::recover`: it is also that of a record that names another file.
 pub fn guarded<N: Disk>(
     alloc: Global,
     journal: &mut Journal<N>,
     safe: Numbers,
-) -> Result<usize, Error>
+) -> Result<Named, Error>
     ensures named { OnOk result (IsTrue (N.Disk.is_clean (disk_of journal.new))
         → All (λ text. All (Has safe) (numbers_of text)) (texts_of (kept journal.old))) }
     ensures same { OnOk result (IsTrue (N.Disk.is_clean (disk_of journal.new))
@@ -73,9 +87,13 @@ pub fn guarded<N: Disk>(
         alloc,
         safe,
         named: Numbers::none(alloc),
+        hints: Vec::new(alloc),
     };
     if let Err(error) = journal.recover(alloc, &mut guard) {
         return Err(error);
     }
-    Ok(guard.named.len())
+    Ok(Named {
+        files: guard.named.len(),
+        hints: guard.hints,
+    })
 }

@@ -12,6 +12,7 @@ mod entries;
 mod fault;
 mod forecast;
 mod guard;
+mod hints;
 mod leaving;
 mod numbers;
 mod renewal;

@@ -15,7 +15,8 @@ ghost use Rattle.upload_compact.specs.Surveys.{IsSurveyOf};
 
 use crate::entries::write;
 use crate::fault::CompactFault;
-use crate::guard::guarded;
+use crate::guard::{Named, guarded};
+use crate::hints::told;
 use crate::leaving::{Leaving, Pair};
 use crate::numbers::Numbers;
 use crate::settling::settle;
@@ -97,6 +98,7 @@ fn open_old<D: Disk + Drop, S: Shelf + Drop>(
         Ok(survey) => survey,
         Err(error) => return Err(CompactFault::Old(StoreFault::Journal(error))),
     };
+    let shelf = told(alloc, shelf, &survey.hints);
     let mut store = Store::new(alloc, journal, shelf, limits);
     match store.recover(alloc) {
         Ok(replay) => {
@@ -250,10 +252,14 @@ fn check<N: Disk + Drop, S: Shelf + Drop>(
         → AreSafe S.Shelf.held S.Shelf.may_leave it.0.shelf (texts_of (kept it.0.fresh))) }
 {
     let mut fresh = Journal::new(fresh, line);
-    let named = match guarded(alloc, &mut fresh, safe) {
-        Ok(named) => named,
+    let Named {
+        files: named,
+        hints,
+    } = match guarded(alloc, &mut fresh, safe) {
+        Ok(guarded) => guarded,
         Err(error) => return Err(CompactFault::New(StoreFault::Journal(error))),
     };
+    let shelf = told(alloc, shelf, &hints);
     match verified(alloc, fresh, shelf, limits, service, moment) {
         Ok(checked) => Ok((checked, named)),
         Err(fault) => Err(fault),
@@ -318,6 +324,7 @@ fn renewed<D: Disk + Drop, N: Disk + Drop, S: Shelf + Drop>(
         tables,
         named,
         records: before,
+        hints: _hints,
     } = survey;
     let named_before = named.len();
     let mut safe = named;

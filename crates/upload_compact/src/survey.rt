@@ -5,7 +5,9 @@ ghost use Rattle.upload_store.specs.Found.{entry_numbers};
 ghost use Rattle.upload_compact.specs.Numbers.{Has, HasNone};
 ghost use Rattle.upload_compact.specs.Surveys.{NamesMore, IsSurveyOf};
 
+use crate::hints::add_hint;
 use crate::numbers::{Numbers, files_in};
+use bodies::Hint;
 use journal::{Error, Journal, Machine};
 use sqlite_disk::Disk;
 use std::alloc::{AllocError, Global};
@@ -275,6 +277,8 @@ pub struct Survey {
     pub named: Numbers,
     /// How many records there are.
     pub records: u64,
+    /// Which bodies a replay of them asks for, in order.
+    pub hints: Vec<Hint>,
 }
 
 impl Survey {
@@ -285,6 +289,7 @@ impl Survey {
             tables: Tables::new(alloc, limits),
             named: Numbers::none(alloc),
             records: 0,
+            hints: Vec::new(alloc),
         }
     }
 
@@ -294,6 +299,7 @@ impl Survey {
             → Has self.old.named n ⊎ Contains (entry_numbers entry) n }
     {
         self.named.add_files(files_in(&entry))?;
+        add_hint(&mut self.hints, &entry);
         match entry {
             Entry::Exchange(exchange) => self.tables.note(time, exchange),
             Entry::NumbersUpTo(_) | Entry::MomentsUpTo(_) => Ok(()),

@@ -22,9 +22,14 @@ use std::alloc::Global;
 use std::thread::Threads;
 use upload_journal::Replay;
 
-/// How many bytes bodies may have together that are read ahead: no room counts them. If there is one, an eighth of it is
-/// enough.
+/// How many bytes bodies may have together that are read ahead, without a limit on what is held.
 const MOST_AHEAD: u64 = 1 << 30;
+
+/// How many bytes bodies may have together that are read ahead, if no more than `memory` may be held: no room counts them,
+/// and an eighth of it is enough.
+pub fn most_ahead(memory: Option<u64>) -> u64 {
+    memory.map_or(MOST_AHEAD, |memory| MOST_AHEAD.min(memory / 8))
+}
 
 impl<D: Disk, S: Lends> Store<D, S> {
     ghost use Rattle.upload_store.specs.Store.{journal_of, shelf_of, disk_of, is_open, kept_of, next_of, limits_of};
@@ -46,10 +51,7 @@ impl<D: Disk, S: Lends> Store<D, S> {
             memory,
             next,
         } = self;
-        let most_ahead = match &memory {
-            Some(room) => MOST_AHEAD.min(room.limit() / 8),
-            None => MOST_AHEAD,
-        };
+        let most_ahead = most_ahead(memory.as_ref().map(|room| room.limit()));
         let shelf = AheadShelf::new(rt, alloc, run.rerun.files.shelf, hints, most_ahead);
         let rerun = Rerun::new(alloc, shelf, limits);
         let run = Rescue::new(alloc, rerun);

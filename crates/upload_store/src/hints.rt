@@ -57,15 +57,12 @@ fn body_of(exchange: &KeptExchange) -> Option<(&KeptBody, Option<Algorithm>)> {
     }
 }
 
-/// The file that a record names, if it is an entry that names one alone.
-fn hint_in(alloc: Global, bytes: &[u8]) -> Option<Hint> {
-    if bytes.len() > LONGEST {
-        return None;
-    }
-    let Ok(Entry::Exchange(exchange)) = read_entry(alloc, bytes) else {
+/// The file that an entry names, if it names one alone. Nothing is promised of it.
+pub fn hint_of(entry: &Entry) -> Option<Hint> {
+    let Entry::Exchange(exchange) = entry else {
         return None;
     };
-    let (body, hashed) = body_of(&exchange)?;
+    let (body, hashed) = body_of(exchange)?;
     let KeptBody::InFiles(files) = body else {
         return None;
     };
@@ -79,6 +76,15 @@ fn hint_in(alloc: Global, bytes: &[u8]) -> Option<Hint> {
         len: file.len,
         hashed: hashed.or(hash_of_chunk(&exchange.answer, file.len)),
     })
+}
+
+/// The file that a record names, if it is an entry that names one alone.
+fn hint_in(alloc: Global, bytes: &[u8]) -> Option<Hint> {
+    if bytes.len() > LONGEST {
+        return None;
+    }
+    let entry = read_entry(alloc, bytes).ok()?;
+    hint_of(&entry)
 }
 
 impl Machine for Listing {
