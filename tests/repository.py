@@ -59,10 +59,11 @@ OF_TESTS = re.compile(r"^#\[cfg\(test\)\]\nmod (\w+);", re.MULTILINE)
 NO_CLAUSE = {
     "upload_bytes": {"ThreadEnd::new", "ThreadEnd::wait", "Room::of", "Upload::stays"},
     "upload_service": {"Service::is_scarce", "Service::room"},
+    "upload_store": {"hint_of", "most_ahead"},
     "journal_file": {"Folder::remove", "Folder::rename", "make_plain"},
     "blobd_data": {
-        "tell_behind",
         "tell_losses",
+        "tell_missing",
         "Progress::begin",
         "Progress::end",
         "read_status",

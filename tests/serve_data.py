@@ -506,41 +506,105 @@ def damaged_anywhere(folder):
     check("some bits were a loss", kinds["named"] > 20, kinds)
 
 
+def gates_of(journal):
+    """Where the open gates of a journal stand: one has no zero byte, and begins with a one."""
+    return [at for at in range(SECTOR, len(journal), SECTOR) if journal[at] == 1 and 0 not in journal[at : at + SECTOR]]
+
+
+def zeroed(path, first, last):
+    """Writes zeros over a part of a file."""
+    with open(path, "r+b") as file:
+        file.seek(first)
+        file.write(bytes(last - first))
+
+
+def bodies_of(path):
+    """The files of the bodies of a directory, by their names and bytes."""
+    return tree(os.path.join(path, "bodies"))
+
+
+MISSING = "damage in {0}: journal: records are missing at its end: "
+WENT_ON = "{0}: an earlier start went on without records that were missing; no file is removed before `blobd compact {0}`\n"
+
+
+def goes_on_without(name, path, contents):
+    """Checks that a directory whose journal ends as no crash leaves it is refused if it is to be strict, and else served by
+    what stands before; that no start removes a file before it is compacted; and that what is pushed then is there."""
+    before, more = bodies_of(path), b"more"
+    is_refused(f"{name}: a strict start", path, "journal: records are missing at its end")
+    told, status, more_told = run("compact", path)
+    check(f"{name}: it isn't compacted", (told, status) == REFUSED and "records are missing" in more_told, more_told)
+    with serving_the_rest(path) as server, server.client() as client:
+        first = server.told(5)
+        check(f"{name}: it is told", first.startswith("blobd: " + MISSING.format(path)), first)
+        found = [pull(server, NAME, sha256(content)) for content in contents]
+        there = sum(one == content for one, content in zip(found, contents))
+        check(f"{name}: the first ones are there", found == contents[:there] + [404] * (len(contents) - there), found)
+        equal(f"{name}: a push", client.push(NAME, more)[-1], 201)
+    for _ in range(2):
+        with serving(path) as server:
+            equal(f"{name}: what a strict start says then", server.told(5), "blobd: " + WENT_ON.format(path))
+            kept = [pull(server, NAME, sha256(content)) for content in [*contents[:there], more]]
+            equal(f"{name}: what is there", kept, [*contents[:there], more])
+        check(f"{name}: no file is removed", before.items() <= bodies_of(path).items())
+    told, status, more_told = run("compact", path)
+    equal(f"{name}: a compaction", (status, more_told), (0, ""))
+    with serving(path) as server:
+        told = server.told(5)
+        check(f"{name}: nothing is said any more", HOLDS.fullmatch(told), told)
+        kept = [pull(server, NAME, sha256(content)) for content in [*contents[:there], more]]
+        equal(f"{name}: what is there behind a compaction", kept, [*contents[:there], more])
+    return there
+
+
 @case()
-def damaged_gates(folder):
-    """Behind a gate that was damaged no record is taken. That is told at each start, strict or not, unless one batch stands
-    there, as behind a crash; and what stands before it is served."""
+def broken_ends(folder):
+    """Whatever stands between the records of a journal is changed, cut off or zeros: that is found."""
     good, bad = os.path.join(folder, "good"), os.path.join(folder, "bad")
-    contents = [b"%d" % number for number in range(6)]
+    chance = random.Random(OPTIONS.seed)
+    contents = [chance.randbytes(3), chance.randbytes(LARGEST_IN_JOURNAL + 1), chance.randbytes(5_000)]
+    contents += [chance.randbytes(size) for size in (4, 2 * LARGEST_IN_JOURNAL, 5)]
     with serving(good) as server, server.client() as client:
         equal("pushes", [client.push(NAME, content)[-1] for content in contents], [201] * len(contents))
     with open(f"{good}/journal", "rb") as file:
-        journal = file.read()
-    # a gate that is open has no zero byte, and begins with a one
-    gates = [at for at in range(SECTOR, len(journal), SECTOR) if journal[at] == 1 and 0 not in journal[at : at + SECTOR]]
+        gates = gates_of(file.read())
     check("a batch for each push at least", len(gates) >= len(contents), len(gates))
-    fewest = len(contents)
-    for left, at in reversed(list(enumerate(gates))):
-        shutil.copytree(good, bad)
-        flipped(f"{bad}/journal", at, 1)
-        behind = len(gates) - left
-        for start in (serving, serving_the_rest):
-            with start(bad) as server:
-                equal("a start", server.first_line[:10], "listening ")
-                *told, holds = iter(lambda: server.told(0), "")
-                wanted = f"blobd: {bad}: {behind} batches of records behind the end of the journal were not taken"
-                is_told = len(told) == (behind > 1) and all(line.startswith(wanted) for line in told)
-                check("what is told", is_told and HOLDS.fullmatch(holds), (behind, told, holds))
-        with serving(bad) as server, server.client() as client:
-            found = [pull(server, NAME, sha256(content)) for content in contents]
-            there = sum(one == content for one, content in zip(found, contents))
-            check("the first ones are there", found[there:] == [404] * (len(contents) - there) and there <= fewest, found)
-            fewest = there
-            equal("a push", client.push(NAME, b"more")[-1], 201)
-        with serving(bad) as server:
-            equal("what was pushed then", pull(server, NAME, sha256(b"more")), b"more")
-        shutil.rmtree(bad)
-    equal("behind the first gate", fewest, 0)
+    journal, fewest = f"{bad}/journal", set()
+    for left, at in enumerate(gates):
+        head, is_last = at + SECTOR, left == len(gates) - 1
+        kinds = [
+            ("a number", lambda: flipped(journal, head + chance.randrange(8), chance.randrange(8))),
+            ("a length", lambda: flipped(journal, head + 16 + chance.randrange(5), chance.randrange(8))),
+            ("a journal that is cut", lambda: os.truncate(journal, head + chance.randrange(SECTOR))),
+            *([("a gate", lambda: flipped(journal, at, chance.randrange(8))),
+               ("zeros", lambda: zeroed(journal, at, gates[-1]))] if not is_last else []),
+        ]
+        # a change for each gate, and all at one in the middle and at the last one
+        for name, spoil in kinds if left == len(gates) // 2 or is_last else [kinds[left % len(kinds)]]:
+            shutil.copytree(good, bad)
+            spoil()
+            fewest.add(goes_on_without(f"{name} at gate {left}", bad, contents))
+            shutil.rmtree(bad)
+    check("all, but for the last one, and none", 0 in fewest and max(fewest) < len(contents), fewest)
+
+
+@case()
+def torn_gate(folder):
+    """A gate that was being opened, as a power cut may leave it, is no damage: the start isn't refused for it. No file goes
+    before the journal ends as usual again."""
+    path = os.path.join(folder, "data")
+    with serving(path) as server, server.client() as client:
+        equal("pushes", [client.push(NAME, content)[-1] for content in (b"a", b"b")], [201] * 2)
+    with open(f"{path}/journal", "rb") as file:
+        last = gates_of(file.read())[-1]
+    zeroed(f"{path}/journal", last, last + SECTOR // 2)
+    with serving(path) as server, server.client() as client:
+        told = server.told(5)
+        check("nothing is said", HOLDS.fullmatch(told), told)
+        equal("what was acknowledged before", pull(server, NAME, sha256(b"a")), b"a")
+        equal("a push", client.push(NAME, b"c")[-1], 201)
+    with serving(path) as server:
+        equal("what was pushed then", pull(server, NAME, sha256(b"c")), b"c")
 
 
 @case("cc")
@@ -850,7 +914,7 @@ def copied_while_it_serves(folder):
         equal("the copy", (ran.returncode, ran.stderr), (0, ""))
         pushers.end()
         check("there was something to copy, and more behind it", 20 < len(stored) < len(told.stored), len(stored))
-    with serving(copy) as server, server.client() as client:
+    with serving_the_rest(copy) as server, server.client() as client:
         equal("a start on the copy", server.first_line[:10], "listening ")
         wrong = [key for key, kept in stored.items() if pull(server, *key) != kept]
         check("what was told before the copy began", not wrong, wrong[:3])

@@ -9,6 +9,7 @@ use blobd_serve::limits;
 use blobd_shared::{DONE, FAULT, Quantity, REFUSED, print_line};
 use journal_file::Wary;
 use std::io::{self, Write};
+use std::thread::Threads;
 use upload_compact::{Forecast, Leaving};
 
 /// Says why a data directory isn't compacted, and gives the exit status.
@@ -50,21 +51,35 @@ fn print_forecast(rt: &HostRuntime, path: &str, leaving: &Leaving) -> u8 {
 
 /// Writes the journal of the data directory at `path` anew, without what needn't stay if that is said; gives the exit
 /// status.
-fn print_room(rt: &HostRuntime, path: &str, leaving: Option<&Leaving>) -> u8 {
-    match compact_data::<Wary, Wary, Wary, AnyBodies>(rt, path, limits(), Wary, Wary, leaving) {
-        Ok(room) => print_line(&mut io::writer(rt), format_args!("compacted: {room}"), DONE),
-        Err(fault) => print_fault(rt, path, &fault),
+fn print_room<R: Threads>(rt: &R, host: &HostRuntime, path: &str, leaving: Option<&Leaving>) -> u8 {
+    let made = compact_data::<R, Wary, Wary, Wary, AnyBodies>(
+        rt,
+        host,
+        path,
+        limits(),
+        None,
+        Wary,
+        Wary,
+        leaving,
+    );
+    match made {
+        Ok(room) => print_line(
+            &mut io::writer(host),
+            format_args!("compacted: {room}"),
+            DONE,
+        ),
+        Err(fault) => print_fault(host, path, &fault),
     }
 }
 
 /// The same with this list of what is referred to, without which the others go, or says what would go.
-fn run_keeping(rt: &HostRuntime, path: &str, dry: bool, keep: Keep) -> u8 {
+fn run_keeping<R: Threads>(rt: &R, host: &HostRuntime, path: &str, dry: bool, keep: Keep) -> u8 {
     let Keep { list, grace } = keep;
-    let since = seconds_now(rt).saturating_sub(grace);
-    match read_list(rt, list, since) {
-        Ok(leaving) if dry => print_forecast(rt, path, &leaving),
-        Ok(leaving) => print_room(rt, path, Some(&leaving)),
-        Err(fault) => print_no_list(rt, list, &fault),
+    let since = seconds_now(host).saturating_sub(grace);
+    match read_list(host, list, since) {
+        Ok(leaving) if dry => print_forecast(host, path, &leaving),
+        Ok(leaving) => print_room(rt, host, path, Some(&leaving)),
+        Err(fault) => print_no_list(host, list, &fault),
     }
 }
 
@@ -72,10 +87,16 @@ fn run_keeping(rt: &HostRuntime, path: &str, dry: bool, keep: Keep) -> u8 {
 /// is referred to, the other blobs of repositories go too, but those that are young.
 ///
 /// `fault: data` is printed if that can't be done, and `refused: keep` if the list can't be read; standard error says why.
-pub fn run_compact(rt: &HostRuntime, path: &str, dry: bool, keep: Option<Keep>) -> u8 {
+pub fn run_compact<R: Threads>(
+    rt: &R,
+    host: &HostRuntime,
+    path: &str,
+    dry: bool,
+    keep: Option<Keep>,
+) -> u8 {
     match keep {
-        Some(keep) => run_keeping(rt, path, dry, keep),
-        None if dry => print_waste(rt, path),
-        None => print_room(rt, path, None),
+        Some(keep) => run_keeping(rt, host, path, dry, keep),
+        None if dry => print_waste(host, path),
+        None => print_room(rt, host, path, None),
     }
 }

@@ -4,7 +4,7 @@ ghost use Rattle.upload_intake.specs.Safety.{Leads};
 
 use blobd_data::{
     AnyBodies, CompactingFault, Damaged, DataFault, Teller, Watch, compact_if_worth, open_data,
-    read_status, tell_behind, tell_losses,
+    read_status, tell_losses, tell_missing,
 };
 use blobd_serve::{Terms, limits, run_serve, run_serve_kept};
 use blobd_shared::{ByteCount, FAULT, Holding, print_line};
@@ -107,9 +107,15 @@ fn millis_since<R: Clock>(rt: &R, begun: Option<Instant>) -> u64 {
 
 /// Has the journal of the data directory at `path` written anew if much of it is dead, and says so, with the time that it
 /// took. If that can't be done a start goes on, and says why, unless it comes to the same itself.
-fn make_room<R: Eprint + Clock>(rt: &R, host: &HostRuntime, path: &str, memory: Option<u64>) {
+fn make_room<R: Threads + Eprint + Clock>(
+    rt: &R,
+    host: &HostRuntime,
+    path: &str,
+    memory: Option<u64>,
+) {
     let begun = Instant::now(rt).ok();
-    let made = compact_if_worth::<Wary, Wary, Wary, Wary, AnyBodies>(
+    let made = compact_if_worth::<R, Wary, Wary, Wary, Wary, AnyBodies>(
+        rt,
         host,
         path,
         limits(),
@@ -213,7 +219,7 @@ where
         }
     };
     tell_losses(rt, host, path, &data.losses);
-    tell_behind(rt, path, data.behind);
+    tell_missing(rt, path, data.missing);
     listen_over(rt, addr, terms, data.kept, path, seen, &mut out)
 }
 

@@ -312,7 +312,7 @@ fn main(rt: HostRuntime) -> ExitCode {
         Some(Command::Once) => serve_input(&rt),
         Some(Command::Serve { addr, count }) => serve(&rt, &rt, addr, count, seen),
         Some(Command::Status { path, json }) => print_status(&rt, path, json),
-        Some(Command::Compact { path, dry, keep }) => run_compact(&rt, path, dry, keep),
+        Some(Command::Compact { path, dry, keep }) => run_compact(&rt, &rt, path, dry, keep),
         Some(Command::Help) => print_line(&mut io::writer(&rt), HELP, DONE),
         Some(Command::Version) => print_line(&mut io::writer(&rt), VERSION, DONE),
         Some(

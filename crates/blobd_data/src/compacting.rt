@@ -7,16 +7,17 @@ use crate::line::line_of;
 use crate::open::{FRESH, JOURNAL, open_journal, open_shelf};
 use crate::texts::StoreText;
 use blobd_shared::{ByteCount, Quantity};
-use bodies::{Holds, Shelf};
-use journal::Journal;
+use bodies::{AheadShelf, Holds, Shelf};
+use journal::{Ending, Journal};
 use journal_file::{FileFrom, Folder, OpenFault, Start};
 use sqlite_disk::Disk;
 use std::io::{self, ErrorKind};
+use std::thread::Threads;
 use std::{fmt, fs};
-use upload_compact::{CompactFault, Compacted, Leaving, compact};
+use upload_compact::{CompactFault, Compacted, Leaving, compact, weigh};
 use upload_records::sweep;
 use upload_service::Limits;
-use upload_store::StoreFault;
+use upload_store::{StoreFault, most_ahead};
 
 /// Why a directory's journal isn't written anew, or what it doesn't name doesn't go.
 #[derive(Debug, Drop)]
@@ -29,8 +30,8 @@ pub enum CompactingFault {
     Fresh(OpenFault),
     /// The new journal isn't written, or it isn't the same.
     Compact(CompactFault),
-    /// Batches stand behind the end of the journal, which is damaged there.
-    Behind(usize),
+    /// The journal ends as no crash leaves it: batches of records are lost there.
+    BrokenJournal,
     /// The new journal can't take the old one's place.
     Switch(io::Error),
     /// What isn't named can't be looked for, or can't be removed.
@@ -50,12 +51,9 @@ impl fmt::Display for CompactingFault {
             CompactingFault::NoJournal => f.write_str("it has no journal"),
             CompactingFault::Fresh(fault) => write!(f, "{FRESH}: {fault}"),
             CompactingFault::Compact(fault) => write!(f, "{}", CompactText(fault)),
-            CompactingFault::Behind(count) => {
-                write!(
-                    f,
-                    "its journal is damaged: {count} batches stand behind its end"
-                )
-            }
+            CompactingFault::BrokenJournal => f.write_str(
+                "journal: records are missing at its end: put it back, or start a server, which goes on without them",
+            ),
             CompactingFault::Switch(error) => write!(f, "{FRESH}: {error}"),
             CompactingFault::Sweep(fault) => write!(f, "{}", StoreText(fault)),
             CompactingFault::Unread(count) => {
@@ -146,9 +144,9 @@ fn open_fresh<N: Start>(
     }
 }
 
-/// Has the new journal take the old one's place if it is shorter. If not it goes.
-fn switch(rt: &HostRuntime, folder: &Folder, is_shorter: bool) -> Result<(), CompactingFault> {
-    let done = if is_shorter {
+/// Has the new journal take the old one's place, or go.
+fn switch(rt: &HostRuntime, folder: &Folder, takes_place: bool) -> Result<(), CompactingFault> {
+    let done = if takes_place {
         folder.rename(rt, FRESH, JOURNAL)
     } else {
         folder.remove(rt, FRESH)
@@ -159,11 +157,23 @@ fn switch(rt: &HostRuntime, folder: &Folder, is_shorter: bool) -> Result<(), Com
     }
 }
 
-/// Sees that no batches stand behind the end of a journal, but for one that a crash may have left.
+/// Sees that a journal that was recovered doesn't end as no crash leaves it.
 fn see_its_end<D: Disk>(journal: &mut Journal<D>) -> Result<(), CompactingFault> {
-    match journal.later_batches() {
-        Ok(count) if count < 2 => Ok(()),
-        Ok(count) => Err(CompactingFault::Behind(count)),
+    match journal.ending() {
+        Ok(Ending::Broken) => Err(CompactingFault::BrokenJournal),
+        Ok(Ending::Sound | Ending::Doubtful) => Ok(()),
+        Err(error) => Err(CompactingFault::Compact(CompactFault::Old(StoreFault::Journal(error)))),
+    }
+}
+
+/// Whether a journal marks that records are lost. A new one doesn't: what is asked for now is that their bodies go.
+fn has_mark<D: Disk>(
+    rt: &HostRuntime,
+    journal: &mut Journal<D>,
+    limits: Limits,
+) -> Result<bool, CompactingFault> {
+    match weigh(rt.alloc(), journal, limits) {
+        Ok(weight) => Ok(weight.looked.has_mark),
         Err(error) => Err(CompactingFault::Compact(CompactFault::Old(StoreFault::Journal(error)))),
     }
 }
@@ -185,13 +195,16 @@ fn sweep_by<D: Disk + Drop, S: Shelf + Drop>(
 /// Writes the journal of the data directory at `path` anew, for a service with these limits, as the shortest one that
 /// stands for the same service, and removes the files of bodies that it doesn't name. Uploads that are idle go, and so do
 /// the blobs of repositories that needn't stay, if that is said (`Leaving`). No server can have the directory meanwhile. A
-/// crash at any moment leaves the old journal or the new one, and all that it names.
+/// crash at any moment leaves the old journal or the new one, and all that it names. Bodies are read ahead in threads, an
+/// eighth of the memory that the service may hold at most (`most_ahead`).
 ///
 /// Which values stand for `J`, `N`, `S` and `H` says nothing: what holds of all of them holds of what is there.
-pub fn compact_data<J: Start, N: Start, S: Start, H: Holds>(
+pub fn compact_data<R: Threads, J: Start, N: Start, S: Start, H: Holds>(
+    threads: &R,
     rt: &HostRuntime,
     path: &str,
     limits: Limits,
+    memory: Option<u64>,
     start: J,
     fresh_start: N,
     leaving: Option<&Leaving>,
@@ -206,7 +219,16 @@ pub fn compact_data<J: Start, N: Start, S: Start, H: Holds>(
         Ok(lock) => lock,
         Err(fault) => return Err(CompactingFault::Data(DataFault::Folder(fault))),
     };
-    let room = compact_in::<J, N, S, H>(rt, &lock, limits, start, fresh_start, leaving);
+    let room = compact_in::<R, J, N, S, H>(
+        threads,
+        rt,
+        &lock,
+        limits,
+        memory,
+        start,
+        fresh_start,
+        leaving,
+    );
     if room.is_err() {
         let _ = lock.remove(rt, FRESH);
     }
@@ -214,10 +236,12 @@ pub fn compact_data<J: Start, N: Start, S: Start, H: Holds>(
 }
 
 /// The same, in a folder that is locked.
-fn compact_in<J: Start, N: Start, S: Start, H: Holds>(
+fn compact_in<R: Threads, J: Start, N: Start, S: Start, H: Holds>(
+    threads: &R,
     rt: &HostRuntime,
     folder: &Folder,
     limits: Limits,
+    memory: Option<u64>,
     start: J,
     fresh_start: N,
     leaving: Option<&Leaving>,
@@ -233,6 +257,8 @@ fn compact_in<J: Start, N: Start, S: Start, H: Holds>(
         Ok(shelf) => shelf,
         Err(fault) => return Err(CompactingFault::Data(fault)),
     };
+    let none = Vec::new(rt.alloc());
+    let shelf = AheadShelf::new(threads, rt.alloc(), shelf, none, most_ahead(memory));
     let fresh = open_fresh(rt, folder, fresh_start)?;
     let journal = Journal::new(file, line_of(limits));
     let fresh = Journal::new(fresh, line_of(limits));
@@ -250,9 +276,11 @@ fn compact_in<J: Start, N: Start, S: Start, H: Holds>(
         after,
         gone,
     } = it;
+    let shelf = shelf.into_inner();
     see_its_end(&mut old)?;
-    switch(rt, folder, is_shorter)?;
-    let (files, after) = if is_shorter {
+    let takes_place = is_shorter || has_mark(rt, &mut old, limits)?;
+    switch(rt, folder, takes_place)?;
+    let (files, after) = if takes_place {
         (sweep_by(rt, fresh, shelf)?, after)
     } else {
         (sweep_by(rt, old, shelf)?, before)

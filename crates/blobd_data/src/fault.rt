@@ -18,6 +18,8 @@ pub enum DataFault {
     NoBodies,
     /// It has bodies, and no journal that says what they are.
     NoJournal,
+    /// Its journal ends as no crash leaves it: batches of records are lost there.
+    BrokenJournal,
     /// What it has can't be read, or is not what a server with these limits has written.
     Store(StoreFault),
 }
@@ -50,6 +52,9 @@ impl fmt::Display for DataFault {
             DataFault::Bodies(fault) => write!(f, "bodies: {fault}"),
             DataFault::NoBodies => f.write_str("it has a journal, but its bodies are missing"),
             DataFault::NoJournal => f.write_str("it has bodies, but its journal is missing"),
+            DataFault::BrokenJournal => f.write_str(
+                "journal: records are missing at its end: it is damaged or cut there, or a copy that was made while a server wrote",
+            ),
             DataFault::Store(fault) => write!(f, "{}", StoreText(fault)),
         }
     }

@@ -1,5 +1,5 @@
 //! What is told of the records that are lost.
-use crate::open::BODIES;
+use crate::open::{BODIES, Missing};
 use crate::texts::RecordText;
 use blobd_shared::Quantity;
 use std::io::{self, Eprint};
@@ -110,4 +110,17 @@ pub fn tell_losses<R: Eprint>(rt: &R, host: &HostRuntime, path: &str, losses: &L
         let more = Quantity(more, "more record");
         let _ = eprintln!(rt; "blobd: damage in {path}: {more} lost");
     }
+}
+
+/// Tells on standard error what tells of lost records of the directory at `path` that can't be named.
+pub fn tell_missing<R: Eprint>(rt: &R, path: &str, missing: Missing) {
+    let _ = match missing {
+        Missing::None => Ok(()),
+        Missing::Here => eprintln!(rt;
+            "blobd: damage in {path}: journal: records are missing at its end: it is damaged or cut there, or a copy that was made while a server wrote; it goes on without them, and no file is removed before `blobd compact {path}`"
+        ),
+        Missing::Before => eprintln!(rt;
+            "blobd: {path}: an earlier start went on without records that were missing; no file is removed before `blobd compact {path}`"
+        ),
+    };
 }

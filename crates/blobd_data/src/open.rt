@@ -8,10 +8,11 @@ ghost use Rattle.blobd_data.specs.declared.open.Damaged.TheVariants.{Refused};
 ghost use Rattle.blobd_data.specs.Opened.{HasBegun};
 
 use crate::fault::DataFault;
+use crate::host::seconds_now;
 use crate::line::line_of;
 use crate::progress::{Progress, Watch};
 use bodies::{FolderShelf, Holds, Shelf};
-use journal::Journal;
+use journal::{Ending, Journal, Looked};
 use journal_file::{FileFrom, Folder, OpenFault, Start};
 use sqlite_disk::Disk;
 use std::fs;
@@ -49,6 +50,9 @@ impl Holds for AnyBodies {
 /// A journal file that held what `J` says as it was opened, and a shelf of bodies in a folder.
 type FolderStore<J, S, H> = Store<FileFrom<J>, FolderShelf<S, H>>;
 
+/// The same, as it was found.
+type FolderFound<J, S, H> = Found<FileFrom<J>, FolderShelf<S, H>>;
+
 /// The same, locked and read.
 type FolderData<J, S, H, T> = Data<FileFrom<J>, FolderShelf<S, H>, T>;
 
@@ -61,6 +65,17 @@ pub enum Damaged {
     Opened,
 }
 
+/// What tells of records that are lost and can't be named.
+#[derive(Clone, Copy, Debug, PartialEq, Eq)]
+pub enum Missing {
+    /// Nothing does.
+    None,
+    /// The journal ends as no crash leaves it, or is a copy that was made while a server wrote: what stood there is lost.
+    Here,
+    /// It ended so before, and a start has gone on without them. No file was removed since.
+    Before,
+}
+
 /// A data directory that was locked and read.
 #[derive(Drop)]
 pub struct Data<D: Disk, S: Shelf, T> {
@@ -70,8 +85,8 @@ pub struct Data<D: Disk, S: Shelf, T> {
     pub kept: KeptService<StoreKeeping<D, S, T>>,
     /// The records that are lost.
     pub losses: Losses,
-    /// How many batches of records stand behind the end of the journal (`Begun::behind`).
-    pub behind: Option<usize>,
+    /// What tells of others that are lost.
+    pub missing: Missing,
 }
 
 /// Whether nothing of this name is in the folder.
@@ -161,8 +176,36 @@ fn refuse_bodies<S: Shelf>(rt: &HostRuntime, shelf: &mut S) -> Result<(), DataFa
     }
 }
 
-/// A store in a folder, which reads nothing yet, and the progress of a start from it. Files that no record names are
-/// removed.
+/// Has a journal that ends as no crash leaves it go on from there, if the directory isn't refused for it. Says what tells
+/// of lost records.
+fn settle_end<D: Disk>(
+    rt: &HostRuntime,
+    journal: &mut Journal<D>,
+    looked: Looked,
+    damaged: Damaged,
+    time: u64,
+) -> Result<Missing, DataFault> {
+    match (looked.ending, damaged) {
+        (Ending::Broken, Damaged::Refused) => Err(DataFault::BrokenJournal),
+        (Ending::Broken, Damaged::Opened) => match journal.go_on(rt.alloc(), time) {
+            Ok(()) => Ok(Missing::Here),
+            Err(error) => Err(DataFault::Store(StoreFault::Journal(error))),
+        },
+        _ if looked.has_mark => Ok(Missing::Before),
+        _ => Ok(Missing::None),
+    }
+}
+
+/// A store in a folder, which reads nothing yet.
+#[derive(Drop)]
+struct Found<D: Disk, S: Shelf> {
+    store: Store<D, S>,
+    /// That of a start from it.
+    progress: Progress,
+    missing: Missing,
+}
+
+/// A store in a folder. Files that no record names are removed.
 fn store_in<R, J: Start, S: Start, H: Holds>(
     watch: Watch<'_, R>,
     rt: &HostRuntime,
@@ -170,12 +213,13 @@ fn store_in<R, J: Start, S: Start, H: Holds>(
     limits: Limits,
     room: Option<Room>,
     start: J,
-) -> Result<(FolderStore<J, S, H>, Progress), DataFault>
+    damaged: Damaged,
+) -> Result<FolderFound<J, S, H>, DataFault>
 where
     R: Threads + Clock + Eprint + Copy + Send + 'static,
     requires lawful { AreLawful limits }
     requires empty { S.Start.db ≡ [] }
-    ensures { IfOk result (λ made. limits_of made.0 ≡ limits) }
+    ensures { IfOk result (λ found. limits_of found.store ≡ limits) }
 {
     let name = match name_of_journal(rt, folder) {
         Ok(name) => name,
@@ -187,15 +231,27 @@ where
     let file = open_journal(rt, folder, name, start)?;
     let mut shelf = open_shelf(rt, folder)?;
     let mut journal = Journal::new(file, line_of(limits));
-    // What can't be removed now stays for the next start.
-    let named = sweep(rt.alloc(), &mut journal, &mut shelf).map_or(0, |swept| swept.named);
+    let (missing, named) = match sweep(rt.alloc(), &mut journal, &mut shelf) {
+        Ok(swept) => {
+            let time = seconds_now(watch.rt);
+            let missing = settle_end(rt, &mut journal, swept.looked, damaged, time)?;
+            (missing, swept.named)
+        }
+        // Files go only if nothing is missing. What can't be removed now stays for the next start.
+        Err(StoreFault::Body(_)) => (Missing::None, 0),
+        Err(fault) => return Err(DataFault::Store(fault)),
+    };
     let progress = Progress::begin(watch, rt.alloc(), named, shelf.counter());
     let store = Store::new(rt.alloc(), journal, shelf, limits);
     let store = match room {
         Some(room) => store.within(room),
         None => store,
     };
-    Ok((store, progress))
+    Ok(Found {
+        store,
+        progress,
+        missing,
+    })
 }
 
 /// Runs what the journal of a store has, for a service with these limits, and begins to keep in it.
@@ -207,6 +263,7 @@ fn open_store<R: Threads, J: Start, S: Start, H: Holds, T: KeepingHost + Drop>(
     limits: Limits,
     host: T,
     damaged: Damaged,
+    missing: Missing,
 ) -> Result<FolderData<J, S, H, T>, DataFault>
     requires same { limits_of store ≡ limits }
     ensures leads { IfOk result (λ opened. Leads (start_of opened.kept.keeping)
@@ -219,11 +276,11 @@ fn open_store<R: Threads, J: Start, S: Start, H: Holds, T: KeepingHost + Drop>(
 {
     match damaged {
         Damaged::Refused => match open_ahead(threads, rt.alloc(), store, host) {
-            Ok(begun) => Ok(Data {
+            Ok(kept) => Ok(Data {
                 lock,
-                kept: begun.kept,
-                losses: begun.losses,
-                behind: begun.behind,
+                kept,
+                losses: Losses::none(rt.alloc()),
+                missing,
             }),
             Err(fault) => Err(DataFault::Store(fault)),
         },
@@ -232,7 +289,7 @@ fn open_store<R: Threads, J: Start, S: Start, H: Holds, T: KeepingHost + Drop>(
                 lock,
                 kept: salvaged.kept,
                 losses: salvaged.losses,
-                behind: salvaged.behind,
+                missing,
             }),
             Err(fault) => Err(DataFault::Store(fault)),
         },
@@ -248,9 +305,10 @@ fn open_store<R: Threads, J: Start, S: Start, H: Holds, T: KeepingHost + Drop>(
 /// `Folder`, `Journal` and `Bodies` say what can't be opened or made. `NoBodies`: there is a journal, and no folder of
 /// bodies. `NoJournal`: there are bodies, and no journal. `Store`: the journal has another format, another version or
 /// other limits, it can't be read, there is no memory for a record, or one can't be run again and `damaged` has the
-/// directory refused for it. Behind an error no record of the directory is changed, and no body that one names, and no
-/// more than the end of the journal is written, which a crash may have left. Bodies that no record names are removed
-/// first, unless a record or the journal's end is damaged.
+/// directory refused for it. `BrokenJournal`: the journal ends as no crash leaves it,
+/// and `damaged` has the directory refused for it: nothing is written. Behind an error no record of the directory is
+/// changed, and no body that one names, and no more than the end of the journal is written, which a crash may have left.
+/// Bodies that no record names are removed first, unless a record or the journal's end is damaged, or was once.
 pub fn open_data<R, J: Start, S: Start, H: Holds, T: KeepingHost + Drop>(
     watch: Watch<'_, R>,
     rt: &HostRuntime,
@@ -278,8 +336,12 @@ where
         Ok(lock) => lock,
         Err(fault) => return Err(DataFault::Folder(fault)),
     };
-    let (store, progress) = store_in(watch, rt, &lock, limits, room, start)?;
-    let opened = open_store(watch.rt, rt, lock, store, limits, host, damaged);
+    let Found {
+        store,
+        progress,
+        missing,
+    } = store_in(watch, rt, &lock, limits, room, start, damaged)?;
+    let opened = open_store(watch.rt, rt, lock, store, limits, host, damaged, missing);
     progress.end(watch.rt);
     let opened = opened?;
     settle_name(rt, &opened.lock)?;

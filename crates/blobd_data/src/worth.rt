@@ -8,6 +8,7 @@ use crate::open::FRESH;
 use crate::weighing::{Waste, weigh_data};
 use bodies::Holds;
 use journal_file::Start;
+use std::thread::Threads;
 use upload_compact::Weight;
 use upload_service::Limits;
 
@@ -43,7 +44,8 @@ fn see_it_fits(weight: &Weight, memory: Option<u64>) -> Result<(), CompactingFau
 ///
 /// `TooLarge`: it would take more memory. `CutOff`: a new journal lies there that didn't take its place, so that whoever
 /// began it may have been ended for it. Other errors are those of `compact_data`.
-pub fn compact_if_worth<L: Start, J: Start, N: Start, S: Start, H: Holds>(
+pub fn compact_if_worth<R: Threads, L: Start, J: Start, N: Start, S: Start, H: Holds>(
+    threads: &R,
     rt: &HostRuntime,
     path: &str,
     limits: Limits,
@@ -58,13 +60,22 @@ pub fn compact_if_worth<L: Start, J: Start, N: Start, S: Start, H: Holds>(
     let Ok(Waste(weight)) = weigh_data(rt, path, limits, looked) else {
         return Ok(None);
     };
-    if !weight.is_shut || !is_worth(&weight) {
+    if !weight.looked.is_sure() || !is_worth(&weight) {
         return Ok(None);
     }
     see_it_fits(&weight, memory)?;
     if is_there(rt, path, FRESH)? {
         return Err(CompactingFault::CutOff);
     }
-    let room = compact_data::<J, N, S, H>(rt, path, limits, start, fresh_start, None)?;
+    let room = compact_data::<R, J, N, S, H>(
+        threads,
+        rt,
+        path,
+        limits,
+        memory,
+        start,
+        fresh_start,
+        None,
+    )?;
     Ok(Some(room))
 }

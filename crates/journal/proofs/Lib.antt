@@ -6,6 +6,8 @@ pub mod Tears
 pub mod Commit
 pub mod Pieces
 pub mod Scan
-pub mod Ending
+pub mod Repaired
 pub mod Causes
 pub mod Keeping
+pub mod Ends
+pub mod Marks

@@ -7,7 +7,7 @@ use Rattle.std.proofs.lemmas.List.{take-append-le, drop-append-le, get_or_append
 use Rattle.std.proofs.lemmas.List.{nil_from_length, drop-take}
 use Rattle.std.proofs.lemmas.Bool.{cases_Bool, le-leb, eq-eqb, eqb-true, lt-leb, cases_eq, cases_lt}
 use Rattle.journal.specs.Format.{Kept, sector, whole, number_of, number_in, time_in, length_in}
-use Rattle.journal.specs.Format.{span, records, behind, next, staged, with_more, one_by_one, batches, later, Lie}
+use Rattle.journal.specs.Format.{span, records, behind, next, staged, with_more, one_by_one, batches, Lie}
 use Rattle.journal.proofs.Places.{take_within}
 
 pub record IsWhole (n : ℕ) : Type 0 where
@@ -219,15 +219,6 @@ pub batches_some : (number : ℕ) (bytes : List ℕ) (found : Kept × List ℕ) 
     number bytes ≡ found.0 ∷ batches (number + 1) found.1
 unfolding batches
 batches_some number bytes found is = all_some next next_less number bytes found is
-
-pub later_none : (number : ℕ) (bytes : List ℕ) → staged number bytes ≡ None → later number bytes ≡ []
-unfolding later
-later_none number bytes none = all_none staged staged_less number bytes none
-
-pub later_some : (number : ℕ) (bytes : List ℕ) (found : Kept × List ℕ) → staged number bytes ≡ Some found → later
-    number bytes ≡ found.0 ∷ later (number + 1) found.1
-unfolding later
-later_some number bytes found is = all_some staged staged_less number bytes found is
 
 -- one batch more at the end
 pub lie_more : (number : ℕ) (p q : List ℕ) (all : List Kept) (kept : Kept) → Lie number p all → next

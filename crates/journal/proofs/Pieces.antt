@@ -1,47 +1,31 @@
 -- What a piece of a batch stands for.
-use Rattle.std.proofs.Common.{◌≡◌, inl, inr, ℕ, ◌+◌, ◌-◌, ◌≤◌, List, [], ◌∷◌, ◌++◌, length, take, drop, Some, None}
+use Rattle.std.proofs.Common.{◌≡◌, ℕ, ◌+◌, ◌-◌, ◌≤◌, List, [], ◌∷◌, ◌++◌, length, take, drop, Some, None}
 use Rattle.std.proofs.Common.{refl, sym, ◌∙◌, ap, subst, arith, append_assoc, length-append, length-drop}
 use Rattle.std.proofs.lemmas.List.{take-append-le, drop-append-le, drop-drop, take-append-drop, append-nil}
-use Rattle.std.proofs.lemmas.Bool.{cases_lt}
 use Rattle.journal.specs.Format.{number_of, records, first}
 use Rattle.journal.specs.Machine.{RunsRecords}
-use Rattle.journal.specs.Reads.{Finds, RunsPast, RunsTo}
-use Rattle.journal.proofs.Reading.{first_short, records_some, records_none}
-use Rattle.journal.proofs.Scan.{first_found}
+use Rattle.journal.specs.Reads.{Finds, IsFirst, RunsPast, RunsTo}
+use Rattle.journal.proofs.Reading.{first_found, records_some, records_none}
 
--- a first record that is there, and why
-record IsFirst (bytes : List ℕ) (found : List ℕ × List ℕ) : Type 0 where
-  fits : 8 + number_of (take 8 bytes) ≤ length bytes
-  is : (take (number_of (take 8 bytes)) (drop 8 bytes), drop (8 + number_of (take 8 bytes)) bytes) ≡ found
-
-is_first : (bytes : List ℕ) (found : List ℕ × List ℕ) → first bytes ≡ Some found → IsFirst bytes found
-is_first bytes found is =
-    elim (cases_lt (length bytes) (8 + number_of (take 8 bytes))) [
-      | inl short ↦ absurd (cc (sym (first_short bytes short) ∙ is))
-      | inr fits ↦ record {
-        fits = fits;
-        is =
-            let e : Some (take (number_of (take 8 bytes)) (drop 8 bytes), drop (8 + number_of (take 8 bytes)) bytes)
-            ≡ Some found =
-            sym (first_found bytes (take (number_of (take 8 bytes)) (drop 8 bytes)) (number_of (take 8 bytes)) refl fits
-            refl) ∙ is in
-            cc;
-      }
-    ]
+pub first_is : (bytes : List ℕ) (found : List ℕ × List ℕ) → IsFirst bytes found → first bytes ≡ Some found
+first_is bytes found it =
+    first_found bytes (take (number_of (take 8 bytes)) (drop 8 bytes)) (number_of (take 8 bytes)) refl it.fits refl
+    ∙ ap Some it.is
 
 -- cut off by its length
 pub first_split : (bytes rest : List ℕ) (size : ℕ) → number_of (take 8 bytes) ≡ size → rest ≡ drop 8 bytes
-    → 8 ≤ length bytes → size ≤ length rest → first bytes ≡ Some (take size rest, drop size rest)
-first_split bytes rest size is rest_is eight fits =
-    first_found bytes (take size rest) size is (omega (arith, ap length rest_is, length-drop 8 bytes, eight))
-    (ap (take size) (sym rest_is))
-    ∙ ap (λ (l : List ℕ). Some (take size rest, l)) (sym (drop-drop size 8 bytes) ∙ ap (drop size) (sym rest_is))
+    → 8 ≤ length bytes → size ≤ length rest → IsFirst bytes (take size rest, drop size rest)
+first_split bytes rest size is rest_is eight fits = record {
+  fits = omega (arith, is, ap length rest_is, length-drop 8 bytes, eight);
+  is =
+      ap (λ (n : ℕ). (take n (drop 8 bytes), drop (8 + n) bytes)) is
+      ∙ ap (λ (l : List ℕ). (take size (drop 8 bytes), l)) (sym (drop-drop size 8 bytes))
+      ∙ ap (λ (l : List ℕ). (take size l, drop size l)) (sym rest_is);
+}
 
 -- what follows it doesn't matter
-first_more : (p q : List ℕ) (found : List ℕ × List ℕ) → first p ≡ Some found → first (p ++ q) ≡ Some
-    (found.0, found.1 ++ q)
-first_more p q found is =
-    let it = is_first p found is in
+first_more : (p q : List ℕ) (found : List ℕ × List ℕ) → IsFirst p found → first (p ++ q) ≡ Some (found.0, found.1 ++ q)
+first_more p q found it =
     let size = number_of (take 8 p) in
     let sized : number_of (take 8 (p ++ q)) ≡ size = ap number_of (take-append-le 8 p q (omega (arith, it.fits))) in
     let body : take size (drop 8 (p ++ q)) ≡ found.0 =
@@ -52,15 +36,14 @@ first_more p q found is =
     ∙ ap (λ (l : List ℕ). Some (found.0, l))
     (drop-append-le (8 + size) p q it.fits ∙ ap (λ (f : List ℕ × List ℕ). f.1 ++ q) it.is)
 
-pub records_on : (p q : List ℕ) (found : List ℕ × List ℕ) → first p ≡ Some found → records (p ++ q) ≡ found.0 ∷ records
+pub records_on : (p q : List ℕ) (found : List ℕ × List ℕ) → IsFirst p found → records (p ++ q) ≡ found.0 ∷ records
     (found.1 ++ q)
 records_on p q found is = records_some (p ++ q) (found.0, found.1 ++ q) (first_more p q found is)
 
 -- what is left of bytes behind one more record
-pub left_of : (bytes rest : List ℕ) (found : List ℕ × List ℕ) → first rest ≡ Some found
+pub left_of : (bytes rest : List ℕ) (found : List ℕ × List ℕ) → IsFirst rest found
     → ((n : ℕ) × (rest ≡ drop n bytes) × (n ≤ length bytes)) → (n : ℕ) × (found.1 ≡ drop n bytes) × (n ≤ length bytes)
-left_of bytes rest found is passed =
-    let it = is_first rest found is in
+left_of bytes rest found it passed =
     let size = 8 + number_of (take 8 rest) in (
       passed.0 + size,
       sym (ap (λ (f : List ℕ × List ℕ). f.1) it.is) ∙ ap (drop size) passed.1 ∙ drop-drop size passed.0 bytes,

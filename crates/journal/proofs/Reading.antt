@@ -3,8 +3,7 @@ use Rattle.std.proofs.Common.{◌≡◌, ◌⊎◌, inl, inr, ℕ, zero, suc, �
 use Rattle.std.proofs.Common.{[], ◌∷◌, ◌++◌, length, take, drop, Some, None, refl, sym, ◌∙◌, ap, arith, append_assoc}
 use Rattle.std.proofs.Common.{length-append, length-drop}
 use Rattle.std.proofs.lemmas.List.{take_at, drop_at}
-use Rattle.std.proofs.lemmas.Bool.{cases_Bool, le-leb}
-use Rattle.std.proofs.lemmas.Bool.Decides.{nat_tests}
+use Rattle.std.proofs.lemmas.Bool.{cases_lt, le-leb, lt-leb}
 use Rattle.std.proofs.lemmas.Nat.{from_be_bytes-to_be_bytes_8}
 use Rattle.std.proofs.lemmas.List.Elements.{All-tail, All-head}
 use Rattle.journal.specs.Format.{number_bytes, number_of, block, blocks, IsShort, AreShort, first, and_more}
@@ -18,28 +17,62 @@ pub number_of-number_bytes : (n : ℕ) → n < 2 ^ 64 → number_of (number_byte
 unfolding number_bytes number_of
 number_of-number_bytes n fits = from_be_bytes-to_be_bytes_8 n fits
 
--- one that is there leaves less
-pub first_less : (bytes : List ℕ) (found : List ℕ × List ℕ) → first bytes ≡ Some found → length found.1 < length bytes
+-- bytes that have all of a record
+pub first_found : (bytes body : List ℕ) (size : ℕ) → number_of (take 8 bytes) ≡ size → 8 + size ≤ length bytes → take
+    size (drop 8 bytes) ≡ body → first bytes ≡ Some (body, drop (8 + size) bytes)
 unfolding first
-first_less bytes found is =
-    let size = number_of (take 8 bytes) in
-    elim (cases_Bool (nat_le (8 + size) (length bytes))) [
-      | inl whole ↦
-          let there : Some (take size (drop 8 bytes), drop (8 + size) bytes) ≡ Some found =
-          sym (ap (λ (b : Bool). cond b (Some (take size (drop 8 bytes), drop (8 + size) bytes)) None) whole) ∙ is in
-          let rest : drop (8 + size) bytes ≡ found.1 = cc in
-          let long : 8 + size ≤ length bytes = grind (arith, nat_tests) in
-          omega (arith, ap length rest, length-drop (8 + size) bytes)
-      | inr part ↦ absurd (cc (sym (ap (λ (b : Bool). cond b (Some (take size (drop 8 bytes), drop (8 + size) bytes))
-          None) part) ∙ is))
-    ]
+first_found bytes body size is fits body_is =
+    let n_is : nat_le (8 + number_of (take 8 bytes)) (length bytes) ≡ true = le-leb (8 + number_of (take 8 bytes))
+    (length bytes) (omega (arith, is)) in
+    ap (λ (b : Bool). cond b (Some (
+      take (number_of (take 8 bytes)) (drop 8 bytes),
+      drop
+          (8 + number_of (take 8 bytes)) bytes,
+    )) (cond (nat_le 1 (length bytes)) (Some (bytes, [])) None)) n_is
+    ∙ ap (λ (n : ℕ). Some (take n (drop 8 bytes), drop (8 + n) bytes)) is ∙ ap
+    (λ (l : List ℕ). Some (l, drop (8 + size) bytes)) body_is
 
-pub first_short : (bytes : List ℕ) → length bytes < 8 + number_of (take 8 bytes) → first bytes ≡ None
+-- and those that don't
+pub first_short : (bytes : List ℕ) → length bytes < 8 + number_of (take 8 bytes) → 0 < length bytes → first bytes ≡
+    Some (bytes, [])
 unfolding first
-first_short bytes short = grind (arith, nat_tests)
+first_short bytes short some =
+    ap (λ (b : Bool). cond b (Some (
+      take (number_of (take 8 bytes)) (drop 8 bytes),
+      drop
+          (8 + number_of (take 8 bytes)) bytes,
+    )) (cond (nat_le 1 (length bytes)) (Some (bytes, [])) None))
+    (lt-leb (8 + number_of (take 8 bytes)) (length bytes) short)
+    ∙ ap (λ (b : Bool). cond b (Some (bytes, [])) None) (le-leb 1 (length bytes) some)
 
 pub first_nil : first [] ≡ None
-first_nil = first_short [] (omega arith)
+unfolding first number_of
+first_nil = refl
+
+pub nil_first : (bytes : List ℕ) → first bytes ≡ None → bytes ≡ []
+nil_first [] none = refl
+nil_first (b ∷ bytes) none = elim (cases_lt (length (b ∷ bytes)) (8 + number_of (take 8 (b ∷ bytes)))) [
+  | inl short ↦ absurd (cc (sym (first_short (b ∷ bytes) short (omega arith)) ∙ none))
+  | inr whole ↦ absurd (cc (sym (first_found (b ∷ bytes) _ (number_of (take 8 (b ∷ bytes))) refl whole refl) ∙ none))
+]
+
+-- one that is there leaves less
+pub first_less : (bytes : List ℕ) (found : List ℕ × List ℕ) → first bytes ≡ Some found → length found.1 < length bytes
+first_less [] found is = absurd (cc (sym first_nil ∙ is))
+first_less (b ∷ bytes) found is =
+    let all = b ∷ bytes in
+    let size = number_of (take 8 all) in
+    elim (cases_lt (length all) (8 + size)) [
+      | inl short ↦
+          let there : Some (all, []) ≡ Some found = sym (first_short all short (omega arith)) ∙ is in
+          let rest : [] ≡ found.1 = cc in
+          omega (arith, ap length rest)
+      | inr whole ↦
+          let there : Some (take size (drop 8 all), drop (8 + size) all) ≡ Some found = sym
+          (first_found all _ size refl whole refl) ∙ is in
+          let rest : drop (8 + size) all ≡ found.1 = cc in
+          omega (arith, whole, ap length rest, length-drop (8 + size) all)
+    ]
 
 none_within : (n : ℕ) (bytes : List ℕ) → first bytes ≡ None → records_within n bytes ≡ []
 none_within zero bytes none = refl
@@ -86,7 +119,6 @@ records_some bytes found is =
     (enough (length bytes) (length found.1) found.1 (omega arith) (omega arith))
 
 pub first_block : (bytes rest : List ℕ) → length bytes < 2 ^ 64 → first (block bytes ++ rest) ≡ Some (bytes, rest)
-unfolding first
 first_block bytes rest fits =
     let head = number_bytes (length bytes) in
     let all = (head ++ bytes) ++ rest in
@@ -101,10 +133,10 @@ first_block bytes rest fits =
     (drop_at head (bytes ++ rest) 8 eight) ∙ take_at bytes rest size (sym sized) in
     let left : drop (8 + size) all ≡ rest = drop_at (head ++ bytes) rest (8 + size)
     (omega (arith, length-append head bytes)) in
-    let whole : nat_le (8 + size) (length all) ≡ true = le-leb (8 + size) (length all)
-    (omega (arith, length-append (head ++ bytes) rest, length-append head bytes)) in
-    ap (λ (b : Bool). cond b (Some (take size (drop 8 all), drop (8 + size) all)) None) whole
-    ∙ (λ i. Some (body i, left i))
+    first_found all bytes (length bytes) sized
+    (omega (arith, length-append (head ++ bytes) rest, length-append head bytes))
+    (ap (λ (n : ℕ). take n (drop 8 all)) (sym sized) ∙ body)
+    ∙ ap (λ (l : List ℕ). Some (bytes, l)) (ap (λ (n : ℕ). drop (8 + n) all) (sym sized) ∙ left)
 
 -- blocks, and then whatever the rest stands for
 pub records-blocks : (recorded : List (List ℕ)) (rest : List ℕ) → AreShort recorded → records

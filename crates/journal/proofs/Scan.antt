@@ -1,18 +1,17 @@
 -- What the bytes that were read say of the file.
-use Rattle.std.proofs.Common.{◌≡◌, ◌≢◌, ℕ, ◌+◌, ◌-◌, ◌<◌, ◌≤◌, Bool, true, cond, nat_le, List, []}
+use Rattle.std.proofs.Common.{◌≡◌, ◌≢◌, ℕ, ◌+◌, ◌-◌, ◌<◌, ◌≤◌, List, []}
 use Rattle.std.proofs.Common.{◌∷◌, ◌++◌, length, take, drop, get_or, slice_index, Option, Some, None, refl, sym, ◌∙◌}
 use Rattle.std.proofs.Common.{ap, subst, arith, append_assoc, length-append, length-drop, length-take}
 use Rattle.std.proofs.Common.{get_or-take, get_or-drop}
 use Rattle.std.proofs.lemmas.List.{drop-drop, ext_get_or, append-nil, take_all}
-use Rattle.std.proofs.lemmas.Bool.{le-leb}
 use Rattle.sqlite_disk.specs.Disk.{Holds}
-use Rattle.journal.specs.Format.{Kept, sector, whole, number_of, number_in, time_in, length_in, span, records, first}
+use Rattle.journal.specs.Format.{Kept, sector, whole, number_of, number_in, time_in, length_in, span, records}
 use Rattle.journal.specs.Format.{next, staged, batches, stored, Lie}
-use Rattle.journal.specs.Reads.{EndsAt, headed, FindsBatch, FindsStaged}
+use Rattle.journal.specs.Reads.{EndsAt, headed, FindsBatch, FindsSize, FindsStaged}
 use Rattle.journal.specs.declared.head.Head.{Head}
 use Rattle.std.proofs.Math.Seq.{take-add}
 use Rattle.journal.specs.Machine.{Runs, RunsRecords}
-use Rattle.journal.proofs.Reading.{first_short}
+use Rattle.journal.proofs.Reading.{first_found, first_short}
 use Rattle.journal.proofs.Places.{take_within}
 use Rattle.journal.proofs.Listing.{span_some, behind_there, behind_other, behind_short, next_open, next_shut}
 use Rattle.journal.proofs.Listing.{next_none, next_short, batches_some, batches_none, lie_more, next_front}
@@ -32,27 +31,13 @@ part_held file at bytes k n holds fits =
     ∙ holds.each (k + i) (omega arith)
     ∙ sym (get_or-drop k bytes i 0) ∙ sym (get_or-take n (drop k bytes) i 0 below))
 
-pub first_found : (bytes body : List ℕ) (size : ℕ) → number_of (take 8 bytes) ≡ size → 8 + size ≤ length bytes → take
-    size (drop 8 bytes) ≡ body → first bytes ≡ Some (body, drop (8 + size) bytes)
-unfolding first
-first_found bytes body size is fits body_is =
-    let n_is : nat_le (8 + number_of (take 8 bytes)) (length bytes) ≡ true = le-leb (8 + number_of (take 8 bytes))
-    (length bytes) (omega (arith, is)) in
-    ap (λ (b : Bool). cond b (Some (
-      take (number_of (take 8 bytes)) (drop 8 bytes),
-      drop
-          (8 + number_of (take 8 bytes)) bytes,
-    )) None) n_is
-    ∙ ap (λ (n : ℕ). Some (take n (drop 8 bytes), drop (8 + n) bytes)) is ∙ ap
-    (λ (l : List ℕ). Some (l, drop (8 + size) bytes)) body_is
-
 -- the records of a batch that ends here
 module _ (file : List ℕ) (at end : ℕ) (fits : end ≤ length file) where
   region_long : length (drop at (take end file)) ≡ end - at
   region_long = omega (arith, length-drop at (take end file), length-take end file)
 
-  pub none_tiny : end - at < 8 → first (drop at (take end file)) ≡ None
-  none_tiny tiny = first_short (drop at (take end file)) (omega (arith, region_long))
+  pub part_tiny : end - at < 8 → FindsSize (take end file) at None
+  part_tiny tiny = first_short (drop at (take end file)) (omega (arith, region_long))
 
   module _ (head : List ℕ) (holds : Holds file at head) (eight : length head ≡ 8) (inside : at + 8 ≤ end) where
     size_is : number_of (take 8 (drop at (take end file))) ≡ number_of head
@@ -62,19 +47,17 @@ module _ (file : List ℕ) (at end : ℕ) (fits : end ≤ length file) where
         ∙ ap number_of (part_held file at head 0 8 holds (omega arith)) ∙ ap (λ (n : ℕ). number_of (take n head))
         (sym eight) ∙ ap number_of (take_all (length head) head (omega arith))
 
-    pub none_past : end - (at + 8) < number_of head → first (drop at (take end file)) ≡ None
-    none_past past = first_short (drop at (take end file)) (omega (arith, region_long, size_is))
+    pub part_past : end - (at + 8) < number_of head → FindsSize (take end file) at None
+    part_past past = first_short (drop at (take end file)) (omega (arith, region_long, size_is))
 
-    pub found_record : (bytes : List ℕ) → at + 8 + number_of head ≤ end → take (number_of head) (drop (at + 8) file) ≡
-        bytes
-        → first (drop at (take end file)) ≡ Some (bytes, drop (at + 8 + number_of head) (take end file))
-    found_record bytes whole_there body =
+    pub found_size : at + 8 + number_of head ≤ end → FindsSize (take end file) at (Some (number_of head))
+    found_size whole_there =
+        let region = take end file in
         let on : at + (8 + number_of head) ≡ at + 8 + number_of head = omega arith in
-        first_found (drop at (take end file)) bytes (number_of head) size_is (omega (arith, region_long))
-        (ap (λ (l : List ℕ). take (number_of head) l) (drop-drop 8 at (take end file)) ∙ take_within file (at + 8)
-        (number_of head) end whole_there ∙ body)
-        ∙ ap (λ (l : List ℕ). Some (bytes, l))
-        (drop-drop (8 + number_of head) at (take end file) ∙ ap (λ (n : ℕ). drop n (take end file)) on)
+        first_found (drop at region) (take (number_of head) (drop (at + 8) region)) (number_of head) size_is
+        (omega (arith, region_long)) (ap (λ (l : List ℕ). take (number_of head) l) (drop-drop 8 at region))
+        ∙ ap (λ (l : List ℕ). Some (take (number_of head) (drop (at + 8) region), l))
+        (drop-drop (8 + number_of head) at region ∙ ap (λ (n : ℕ). drop n region) on)
 
 -- the head of a batch
 module _ (file : List ℕ) (at number : ℕ) where

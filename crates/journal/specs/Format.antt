@@ -1,6 +1,7 @@
 -- What the bytes of a file stand for.
 use Rattle.std.specs.Prelude.{◌≡◌, ◌≢◌, ◌⊎◌, ℕ, zero, suc, ◌+◌, ◌*◌, ◌/◌, ◌<◌, ◌≤◌, ◌^◌, ◌==◌, nat_le, ◌&&◌}
 use Rattle.std.specs.Prelude.{if◌then◌else◌, List, [], ◌∷◌, ◌++◌, length, take, drop, slice_index, Option, Some, None}
+use Rattle.std.specs.Prelude.{Bool, true, false, ◌||◌}
 use Rattle.std.specs.List.{flat_map, All}
 use Rattle.std.specs.Int.{w64, to_be_bytes, from_be_bytes}
 
@@ -33,11 +34,13 @@ IsShort bytes = length bytes < 2 ^ 64
 abbrev pub AreShort : List (List ℕ) → Type 0
 AreShort records = All IsShort records
 
--- the first record, and what follows it, if all of it is there
+-- the first record, and what follows it. Bytes that don't have all of a record were never written so: they stand for
+-- themselves, so that whoever reads records finds one that is damaged
 unfoldable pub first : List ℕ → Option (List ℕ × List ℕ)
 first bytes =
     if nat_le (8 + number_of (take 8 bytes)) (length bytes) then
-    Some (take (number_of (take 8 bytes)) (drop 8 bytes), drop (8 + number_of (take 8 bytes)) bytes) else None
+    Some (take (number_of (take 8 bytes)) (drop 8 bytes), drop (8 + number_of (take 8 bytes)) bytes) else
+    if nat_le 1 (length bytes) then Some (bytes, []) else None
 
 -- a record, and then what the rest stands for
 abbrev pub and_more : (List ℕ → List (List ℕ)) → Option (List ℕ × List ℕ) → List (List ℕ)
@@ -49,7 +52,7 @@ abbrev pub records_within : ℕ → List ℕ → List (List ℕ)
 records_within zero bytes = []
 records_within (suc n) bytes = and_more (records_within n) (first bytes)
 
--- the records of a batch: one after another, up to bytes that are none
+-- the records of a batch, one after another
 unfoldable pub records : List ℕ → List (List ℕ)
 records bytes = records_within (length bytes) bytes
 
@@ -103,13 +106,18 @@ batches number bytes = one_by_one next (length bytes) number bytes
 abbrev pub staged : ℕ → List ℕ → Option (Kept × List ℕ)
 staged number bytes = behind number (drop sector bytes)
 
--- the batches from this number on that stand one behind another, whatever their gates say
-unfoldable pub later : ℕ → List ℕ → List Kept
-later number bytes = one_by_one staged (length bytes) number bytes
-
 -- the batches that a file stands for, whatever a crash made of it; its first sector is the first line
 abbrev pub stored : List ℕ → List Kept
 stored file = batches 0 (drop sector file)
+
+-- a batch without records marks that others were lost before it
+abbrev pub is_mark : Kept → Bool
+is_mark (time, []) = true
+is_mark (time, bytes ∷ records) = false
+
+abbrev pub has_mark : List Kept → Bool
+has_mark [] = false
+has_mark (kept ∷ all) = is_mark kept || has_mark all
 
 -- these bytes are these batches, numbered from here: whatever follows them, they come first
 abbrev pub Lie : ℕ → List ℕ → List Kept → Type 0

@@ -6,3 +6,4 @@ pub mod Errors
 pub mod Line
 pub mod Reads
 pub mod Journal
+pub mod Ending

@@ -1,9 +1,9 @@
 -- What is known of a file that is read from its start.
 use Rattle.std.specs.Prelude.{◌≡◌, ◌≢◌, ◌⊎◌, ℕ, ◌+◌, ◌<◌, ◌≤◌}
-use Rattle.std.specs.Prelude.{List, ◌++◌, length, take, drop, replicate, slice_index, Option, Some, None, IsTrue}
+use Rattle.std.specs.Prelude.{List, [], ◌++◌, length, take, drop, slice_index, Option, Some, None, IsTrue}
 use Rattle.sqlite_disk.specs.declared.Disk.{Ghosts}
 use Rattle.sqlite_disk.specs.Disk.{Torn}
-use Rattle.journal.specs.Format.{Kept, records, first, next, staged, stored, whole, Lie, sector}
+use Rattle.journal.specs.Format.{Kept, number_of, records, first, next, staged, stored, whole, Lie, sector}
 use Rattle.journal.specs.Machine.{RunsRecords}
 use Rattle.journal.specs.declared.head.Head.{Head}
 
@@ -15,10 +15,21 @@ pub record OnlyReads {D : Type 0} (g : Ghosts D) (old new : D) : Type 0 where
   pub faults : g.faults old ≤ g.faults new
   pub crash : (c : List ℕ) → g.may_leave new c → g.may_leave old c
 
+-- a read of how long the next record is: all of it stands here, or not all
+abbrev pub FindsSize : List ℕ → ℕ → Option ℕ → Type 0
+FindsSize file at (Some size) =
+    first (drop at file) ≡ Some (take size (drop (at + 8) file), drop (at + 8 + size) file)
+FindsSize file at None = 0 < length (drop at file) → first (drop at file) ≡ Some (drop at file, [])
+
 -- a read of the next record: its bytes, and where the one behind it begins, or none stands here
 abbrev pub Finds : List ℕ → ℕ → List ℕ → Option ℕ → Type 0
 Finds file at bytes (Some behind) = first (drop at file) ≡ Some (bytes, drop behind file)
 Finds file at bytes None = first (drop at file) ≡ None
+
+-- a first record, all of which is there, and what follows it
+pub record IsFirst (bytes : List ℕ) (found : List ℕ × List ℕ) : Type 0 where
+  pub fits : 8 + number_of (take 8 bytes) ≤ length bytes
+  pub is : (take (number_of (take 8 bytes)) (drop 8 bytes), drop (8 + number_of (take 8 bytes)) bytes) ≡ found
 
 -- a run over the records at the front of these bytes, which take so many of them, whatever follows
 abbrev pub RunsPast : {M : Type 0} → (M → ℕ → List ℕ → M → Type 0) → ℕ → M → List ℕ → ℕ → M → Type 0
@@ -55,13 +66,6 @@ pub record EndsAt (file : List ℕ) (end count : ℕ) : Type 0 where
   pub none : next count (drop end file) ≡ None
   pub count_is : count ≡ length (stored file)
   pub within : end ≤ length file
-
--- all batches of a file stand before a gate that was never opened: its sector has nothing but zeros
-pub record EndsShut (file : List ℕ) : Type 0 where
-  pub end : ℕ
-  pub count : ℕ
-  pub ends : EndsAt file end count
-  pub zeros : take sector (drop end file) ≡ replicate sector 0
 
 -- no gate has all of its sector here, or one that reads as open
 abbrev pub LooksOpen : List ℕ → ℕ → Type 0

@@ -15,8 +15,14 @@ pub const OPEN: u8 = 1;
 
 static OPEN_GATE: [u8; SECTOR] = [OPEN; SECTOR];
 
+/// A gate that stood open without its batch begins with this byte once it is shut. It is shut as any other, and goes on
+/// to tell of the batches that are lost.
+pub const LEFT_OPEN: u8 = 2;
+
 /// A gate that was never opened.
 pub static SHUT_GATE: [u8; SECTOR] = [0; SECTOR];
+
+static LEFT_GATE: [u8; SECTOR] = [LEFT_OPEN; SECTOR];
 
 const STEP: usize = 0x1_0000;
 
@@ -36,6 +42,22 @@ pub fn shut_gate<D: Disk>(disk: &mut D, gate: usize) -> io::Result<()>
         (D.Disk.may_leave disk.new) }
 {
     write_sectors(disk, gate, &SHUT_GATE)
+}
+
+/// Shuts a gate that stood open without its batch, or isn't there behind batches.
+pub fn leave_gate<D: Disk>(disk: &mut D, gate: usize) -> io::Result<()>
+    requires usable { IsTrue (D.Disk.is_usable disk.old) }
+    requires begins { gate % 4096 ≡ 0 }
+    ensures there { OnOk result (gate + sector ≤ length (D.Disk.seen disk.new)) }
+    ensures left { OnOk result (slice_index (D.Disk.seen disk.new) gate ≡ 2) }
+    ensures usable { IsTrue (D.Disk.is_usable disk.new) }
+    ensures clean { IsTrue (D.Disk.is_clean disk.new) → IsTrue (D.Disk.is_clean disk.old) }
+    ensures faults { CountsFault result (D.Disk.faults disk.old) (D.Disk.faults disk.new) }
+    ensures others { Torn gate sector (D.Disk.seen disk.old) (D.Disk.seen disk.new) }
+    ensures crash { Follows (Torn gate sector) (D.Disk.may_leave disk.old)
+        (D.Disk.may_leave disk.new) }
+{
+    write_sectors(disk, gate, &LEFT_GATE)
 }
 
 /// Writes a batch behind the sector of a shut gate, and a shut gate behind the batch, and syncs.

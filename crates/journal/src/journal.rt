@@ -1,22 +1,23 @@
 // A first line, and batches behind one another, each behind a gate, which is open if the batch counts. A shut gate
 // stands behind the last batch, on the disk before anything is written behind it.
 ghost use Rattle.std.specs.Prelude.{◌≡◌, ◌⊎◌, ◌+◌, ◌-◌, ◌%◌, ◌<◌, ◌≤◌, ◌^◌, ◌++◌, ◌∷◌, []};
-ghost use Rattle.std.specs.Prelude.{ℕ, List, false, length, IfOk};
+ghost use Rattle.std.specs.Prelude.{ℕ, List, false, length, IfOk, ⊤};
 ghost use Rattle.std.specs.Prelude.{IfErr, OnOk, OnErr, IsTrue, MatchOption};
 ghost use Rattle.sqlite_disk.specs.Disk.{MoreFaults};
 ghost use Rattle.journal.specs.Machine.{Runs};
-ghost use Rattle.journal.specs.Errors.{Because, WhyNot};
+ghost use Rattle.journal.specs.Errors.{Because, WhyNot, Never};
 ghost use Rattle.journal.specs.Format.{stored, whole, sector, Rests, IsBeforeOrAfter};
 ghost use Rattle.journal.specs.Gate.{IsStaged};
 ghost use Rattle.journal.specs.Reads.{Refuses};
 
+use crate::ending::see_end;
 use crate::gate::{blank, open_gate, stage};
 use crate::head::HEAD_LEN;
 use crate::looking::look;
+use crate::machine::Passing;
 use crate::recovery::{MAX_LEN, measure, prepare};
-use crate::replay::count_later;
 use crate::sectors::{SECTOR, whole};
-use crate::{Batch, Error, Line, Machine};
+use crate::{Batch, Ending, Error, Line, Looked, Machine};
 use sqlite_disk::{Crash, Disk};
 use std::alloc::Global;
 
@@ -211,11 +212,42 @@ impl<D: Disk> Journal<D> {
         if bytes >= MAX_LEN - 0x1_0000 || self.end + SECTOR + bytes >= MAX_LEN - 0x1_0000 {
             return Err(Error::TooLong);
         }
+        self.fill(self.len / SECTOR * SECTOR, bytes)
+    }
+
+    // Writes zeros from here on, so that batches of so many bytes find room: all of it if the journal ends before it.
+    fn fill(&mut self, from: usize, bytes: usize) -> Result<(), Error>
+        requires open { IsTrue (is_open self.old) }
+        requires begins { from % 4096 ≡ 0 }
+        requires behind { end_of self.old < from }
+        requires within { from ≤ end_of self.old + sector + bytes }
+        requires there { from ≤ end_of self.old + sector + room_of self.old }
+        requires fits { end_of self.old + sector + bytes + 65536 < 2 ^ 63 }
+        ensures room { OnOk result (bytes ≤ room_of self.new) }
+        ensures open { OnOk result (IsTrue (is_open self.new)) }
+        ensures line { line_of self.new ≡ line_of self.old }
+        ensures clean { IsTrue (D.Disk.is_clean (disk_of self.new))
+            → IsTrue (D.Disk.is_clean (disk_of self.old)) }
+        ensures cause { IfErr result (WhyNot Never Never
+            (MoreFaults (D.Disk.faults (disk_of self.old)) (D.Disk.faults (disk_of self.new))) ⊤) }
+        ensures closes { OnErr result (is_open self.new ≡ D.Disk.is_usable (disk_of self.new)) }
+        ensures no_room { OnErr result (room_of self.new ≡ room_of self.old) }
+        ensures any_crash { IsTrue (D.Disk.is_clean (disk_of self.new))
+            → (c : List ℕ) → D.Disk.may_leave (disk_of self.new) c → stored c ≡ kept self.old }
+        ensures front { IsTrue (D.Disk.is_clean (disk_of self.new))
+            → (c : List ℕ) → D.Disk.may_leave (disk_of self.new) c
+            → BeginsWith (line_of self.old) c }
+        ensures place { (end_of self.new ≡ end_of self.old) × (count_of self.new ≡ count_of self.old) }
+        ensures faults { D.Disk.faults (disk_of self.old) ≤ D.Disk.faults (disk_of self.new) }
+    {
+        let end = self.end + SECTOR + bytes;
+        if from == end {
+            return Ok(());
+        }
         self.is_open = false;
-        let from = self.len / SECTOR * SECTOR;
-        match blank(&mut self.disk, self.end, from, self.end + SECTOR + bytes) {
+        match blank(&mut self.disk, self.end, from, end) {
             Ok(len) => {
-                self.len = len;
+                self.len = self.len.max(len);
                 self.is_open = true;
                 Ok(())
             }
@@ -298,22 +330,20 @@ impl<D: Disk> Journal<D> {
 }
 
 impl<D: Disk> Journal<D> {
-    ghost use Rattle.std.specs.Prelude.{drop, ⊤};
-    ghost use Rattle.journal.specs.Format.{later};
+    ghost use Rattle.journal.specs.Ending.{EndsAs};
+    ghost use Rattle.journal.specs.Line.{BeginsWith};
     ghost use Rattle.journal.specs.Reads.{OnlyReads, EndsAt};
-    ghost use Rattle.journal.specs.Journal.{disk_of, line_of, is_open, end_of, count_of, room_of};
+    ghost use Rattle.journal.specs.Journal.{disk_of, line_of, is_open, end_of, count_of, room_of, kept};
 
-    /// How many batches stand behind the end of an open journal, one behind another, with the numbers that follow on,
-    /// whatever their gates say. Nothing is written, and nothing is read but heads, so it takes no memory.
+    /// How the batches of an open journal end. It is asked after `recover`, which leaves what tells of lost batches.
     ///
-    /// It is asked after `recover`. One such batch is there after a crash that came before its gate was open. Two are
-    /// there only if a gate was damaged: a batch is written only behind the open gate of the one before. Then at least
-    /// this many batches are lost, but for the last of them, which may not have been acknowledged. That there is no
-    /// false alarm isn't proved: a crash may leave any bytes of what wasn't synced.
-    pub fn later_batches(&mut self) -> Result<usize, Error>
-        ensures counted { IfOk result (λ n. IsTrue (D.Disk.is_clean (disk_of self.new))
-            → n ≡ length (later (count_of self.old)
-            (drop (end_of self.old) (D.Disk.seen (disk_of self.old))))) }
+    /// Nothing is written. It reads a byte of each sector behind the end, so it takes no memory.
+    ///
+    /// A crash leaves no end that is `Broken`: a gate is opened when its batch and the shut gate behind it are on the
+    /// disk. That there is no false alarm isn't proved: a crash may leave any bytes of what wasn't synced.
+    pub fn ending(&mut self) -> Result<Ending, Error>
+        ensures so { IfOk result (λ it. IsTrue (D.Disk.is_clean (disk_of self.new))
+            → EndsAs it (D.Disk.seen (disk_of self.old)) (end_of self.old) (count_of self.old)) }
         // The end is where the batches of the file end.
         ensures end { OnOk result (IsTrue (D.Disk.is_clean (disk_of self.new))
             → EndsAt (D.Disk.seen (disk_of self.old)) (end_of self.old) (count_of self.old)) }
@@ -335,31 +365,88 @@ impl<D: Disk> Journal<D> {
         }
         let len = measure(&mut self.disk)?;
         if len < self.end {
-            return Ok(0);
+            return Ok(Ending::Broken);
         }
-        let found = count_later(&mut self.disk, len, self.end, self.count)?;
-        Ok(found)
+        let ending = see_end(&mut self.disk, len, self.end, self.count)?;
+        Ok(ending)
+    }
+
+    /// Opens a journal whose end is `Broken`, as `recover` does, but runs nothing; adds a batch without records, with the
+    /// time of day in seconds since 1970, as a mark that others are lost before it; and writes zeros over what stands
+    /// behind.
+    ///
+    /// An error is one of `recover` or of `append`, or says that the zeros weren't written: the mark stands then.
+    pub fn go_on(&mut self, alloc: Global, time: u64) -> Result<(), Error>
+        ensures marked { OnOk result (IsTrue (D.Disk.is_clean (disk_of self.new))
+            → kept self.new ≡ kept self.old ++ (time, []) ∷ []) }
+        ensures open { OnOk result (IsTrue (is_open self.new)) }
+        ensures line { line_of self.new ≡ line_of self.old }
+        ensures clean { IsTrue (D.Disk.is_clean (disk_of self.new))
+            → IsTrue (D.Disk.is_clean (disk_of self.old)) }
+        ensures any_crash { IsTrue (D.Disk.is_clean (disk_of self.new))
+            → (c : List ℕ) → D.Disk.may_leave (disk_of self.new) c
+            → (d : List ℕ) × D.Disk.may_leave (disk_of self.old) d
+            × IsBeforeOrAfter (stored d) (time, []) c }
+        ensures front { ((d : List ℕ) → D.Disk.may_leave (disk_of self.old) d
+            → BeginsWith (line_of self.old) d)
+            → IsTrue (D.Disk.is_clean (disk_of self.new))
+            → (c : List ℕ) → D.Disk.may_leave (disk_of self.new) c
+            → BeginsWith (line_of self.old) c }
+    {
+        if let Err(error) = self.recover(alloc, &mut Passing) {
+            return Err(error);
+        }
+        self.mark(alloc, time)
+    }
+
+    // The same of a journal that is open.
+    fn mark(&mut self, alloc: Global, time: u64) -> Result<(), Error>
+        requires open { IsTrue (is_open self.old) }
+        ensures marked { OnOk result (IsTrue (D.Disk.is_clean (disk_of self.new))
+            → kept self.new ≡ kept self.old ++ (time, []) ∷ []) }
+        ensures open { OnOk result (IsTrue (is_open self.new)) }
+        ensures line { line_of self.new ≡ line_of self.old }
+        ensures clean { IsTrue (D.Disk.is_clean (disk_of self.new))
+            → IsTrue (D.Disk.is_clean (disk_of self.old)) }
+        ensures any_crash { IsTrue (D.Disk.is_clean (disk_of self.new))
+            → (c : List ℕ) → D.Disk.may_leave (disk_of self.new) c
+            → IsBeforeOrAfter (kept self.old) (time, []) c }
+        ensures front { IsTrue (D.Disk.is_clean (disk_of self.new))
+            → (c : List ℕ) → D.Disk.may_leave (disk_of self.new) c
+            → BeginsWith (line_of self.old) c }
+    {
+        if let Err(error) = self.append(&Batch::new(alloc), time) {
+            return Err(error);
+        }
+        let room = self.room();
+        // A file of almost 2^63 bytes keeps what stands behind.
+        if self.end + SECTOR + room >= MAX_LEN - 0x1_0000 {
+            return Ok(());
+        }
+        self.fill(self.end + SECTOR, room)
     }
 }
 
 impl<D: Disk> Journal<D> {
-    ghost use Rattle.std.specs.Prelude.{take, true, ◌≢◌};
+    ghost use Rattle.std.specs.Prelude.{take, ◌≢◌};
+    ghost use Rattle.journal.specs.Ending.{Looks};
+    ghost use Rattle.journal.specs.Format.{has_mark};
     ghost use Rattle.journal.specs.Line.{line_bytes};
-    ghost use Rattle.journal.specs.Reads.{OnlyReads, EndsShut};
+    ghost use Rattle.journal.specs.Reads.{OnlyReads};
     ghost use Rattle.journal.specs.Journal.{disk_of, line_of, is_open, end_of, count_of, room_of, kept};
 
     /// Runs a machine over the batches of the file as it stands, and writes nothing, whether the journal is open or not.
     /// So the file may be another one's, who adds to it meanwhile: what is added is read as far as its gates are open. A
     /// file that was only begun has no batch.
     ///
-    /// It is true if the gate behind them was never opened, so that there are no more. Else the file was only begun, or a
-    /// gate or a head is damaged, and batches may stand behind it.
-    pub fn look<M: Machine>(&mut self, alloc: Global, machine: &mut M) -> Result<bool, Error>
+    /// If another one adds to it meanwhile, it may end as a broken one does.
+    pub fn look<M: Machine>(&mut self, alloc: Global, machine: &mut M) -> Result<Looked, Error>
         ensures ran { OnOk result (IsTrue (D.Disk.is_clean (disk_of self.new))
             → Runs M.steps machine.old (kept self.old) machine.new) }
-        ensures shut { IfOk result (λ shut. shut ≡ true
-            → IsTrue (D.Disk.is_clean (disk_of self.new))
-            → EndsShut (D.Disk.seen (disk_of self.old))) }
+        ensures ends { IfOk result (λ it. IsTrue (D.Disk.is_clean (disk_of self.new))
+            → Looks it.ending (D.Disk.seen (disk_of self.old))) }
+        ensures marked { IfOk result (λ it. IsTrue (D.Disk.is_clean (disk_of self.new))
+            → it.has_mark ≡ has_mark (kept self.old)) }
         ensures keeps { (first : M) → M.keeps first machine.old → M.keeps first machine.new }
         ensures reads { IsTrue (D.Disk.is_usable (disk_of self.old))
             → OnlyReads D.Disk (disk_of self.old) (disk_of self.new) }

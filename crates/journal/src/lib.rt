@@ -3,10 +3,11 @@
 //! A file (`line`) begins with a sector that says what it is. Behind it lie batches (`batch`, `head`), each behind a
 //! gate that has a sector of its own (`gate`, `sectors`). A journal (`journal`) adds to them; a start reads them in
 //! order (`replay`), runs a machine (`machine`) over them, and repairs the end (`recovery`). `looking` has it read as it
-//! stands. `life` says what all this comes to, whatever crashes come.
+//! stands, and `ending` says how it ends. `life` says what all this comes to, whatever crashes come.
 #![tactic(auto)]
 
 mod batch;
+mod ending;
 mod error;
 mod gate;
 mod head;
@@ -20,8 +21,10 @@ mod replay;
 mod sectors;
 
 pub use batch::Batch;
+pub use ending::Ending;
 pub use error::Error;
 pub use journal::Journal;
 pub use life::{append_each, live_on, restart};
 pub use line::Line;
+pub use looking::Looked;
 pub use machine::Machine;

@@ -19,3 +19,17 @@ pub trait Machine {
         ensures refused { OnErr result (has_refused self.new) }
         ensures keeps { (first : Self) → keeps first self.old → keeps first self.new };
 }
+
+/// Takes any record, and makes nothing of it.
+#[derive(Drop)]
+pub struct Passing;
+
+impl Machine for Passing {
+    ghost steps = { λ _ _ _ _. Unit {0} };
+
+    ghost has_refused = { λ _. Unit {0} };
+
+    fn apply(&mut self, _time: u64, _bytes: &[u8]) -> io::Result<()> {
+        Ok(())
+    }
+}

@@ -2,19 +2,20 @@
 ghost use Rattle.std.specs.Prelude.{◌≡◌, ◌≢◌, ◌⊎◌, ◌+◌, ◌%◌, ◌<◌, ◌≤◌, ◌^◌, ℕ};
 ghost use Rattle.std.specs.Prelude.{List, true, false, length, take};
 ghost use Rattle.std.specs.Prelude.{slice_index, IfOk, IfErr, OnOk, IsTrue, ⊤};
-ghost use Rattle.sqlite_disk.specs.Disk.{Torn, Follows, Only, MoreFaults};
+ghost use Rattle.sqlite_disk.specs.Disk.{Torn, Follows, Only, CountsFault, MoreFaults};
 ghost use Rattle.journal.specs.Format.{stored, sector, Rests};
 ghost use Rattle.journal.specs.Machine.{Runs};
 ghost use Rattle.journal.specs.Errors.{Because, WhyNot, OnlyDisk, Never};
 ghost use Rattle.journal.specs.Reads.{OnlyReads, LooksOpen, Refuses, Repairs};
 
-use crate::gate::{OPEN, shut_gate};
+use crate::gate::{OPEN, leave_gate, shut_gate};
 use crate::line::begin;
 use crate::replay::{read, replay};
 use crate::sectors::SECTOR;
 use crate::{Error, Machine};
 use sqlite_disk::Disk;
 use std::alloc::Global;
+use std::io;
 
 /// A file has less than this.
 pub const MAX_LEN: usize = 1 << 63;
@@ -77,7 +78,31 @@ fn looks_open<D: Disk>(disk: &mut D, len: usize, end: usize) -> Result<bool, Err
     Ok(gate[0] == OPEN)
 }
 
+/// Writes a shut gate where none is: the first one of a file that was only begun, or one that tells of lost batches.
+fn mend_gate<D: Disk>(disk: &mut D, len: usize, end: usize) -> io::Result<()>
+    requires usable { IsTrue (D.Disk.is_usable disk.old) }
+    requires begins { end % 4096 ≡ 0 }
+    ensures there { OnOk result (end + sector ≤ length (D.Disk.seen disk.new)) }
+    ensures shut { OnOk result (slice_index (D.Disk.seen disk.new) end ≢ 1) }
+    ensures left { OnOk result ((end ≡ sector → end + sector ≤ len) → slice_index (D.Disk.seen disk.new) end ≡ 2) }
+    ensures usable { IsTrue (D.Disk.is_usable disk.new) }
+    ensures clean { IsTrue (D.Disk.is_clean disk.new) → IsTrue (D.Disk.is_clean disk.old) }
+    ensures faults { CountsFault result (D.Disk.faults disk.old) (D.Disk.faults disk.new) }
+    ensures others { Torn end sector (D.Disk.seen disk.old) (D.Disk.seen disk.new) }
+    ensures crash { Follows (Torn end sector) (D.Disk.may_leave disk.old)
+        (D.Disk.may_leave disk.new) }
+{
+    if end == SECTOR && len < end + SECTOR {
+        shut_gate(disk, end)
+    } else {
+        leave_gate(disk, end)
+    }
+}
+
 /// Leaves a shut gate at the end, on the disk. It writes nothing if one is there. Answers how long the file is then.
+///
+/// A gate that stood open, or was missing behind batches, tells of lost batches from then on: a crash leaves no such
+/// gate.
 fn repair<D: Disk>(disk: &mut D, len: usize, end: usize) -> Result<usize, Error>
     requires usable { IsTrue (D.Disk.is_usable disk.old) }
     requires measured { IsTrue (D.Disk.is_clean disk.old) → len ≡ length (D.Disk.seen disk.old) }
@@ -102,7 +127,7 @@ fn repair<D: Disk>(disk: &mut D, len: usize, end: usize) -> Result<usize, Error>
     if !looks_open(disk, len, end)? {
         return Ok(len);
     }
-    if let Err(error) = shut_gate(disk, end) {
+    if let Err(error) = mend_gate(disk, len, end) {
         return Err(Error::Disk(error));
     }
     sync(disk)?;

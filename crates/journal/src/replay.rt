@@ -3,10 +3,10 @@ ghost use Rattle.std.specs.Prelude.{◌≡◌, ◌+◌, ◌%◌, ◌<◌, ◌≤
 ghost use Rattle.std.specs.Prelude.{length, take, drop, slice_index};
 ghost use Rattle.std.specs.Prelude.{IfOk, IfErr, OnOk, IfSome, IfNone, IsTrue, Some, None};
 ghost use Rattle.sqlite_disk.specs.Disk.{Holds, Only, MoreFaults};
-ghost use Rattle.journal.specs.Format.{first, records, stored, later, whole, sector};
+ghost use Rattle.journal.specs.Format.{records, stored, number_of, has_mark, whole, sector};
 ghost use Rattle.journal.specs.Machine.{Runs, RunsRecords};
 ghost use Rattle.journal.specs.Errors.{OnlyDisk, OnlyReplay, Never};
-ghost use Rattle.journal.specs.Reads.{OnlyReads, Finds, RunsPast, RunsTo, FindsBatch, FindsStaged, EndsAt};
+ghost use Rattle.journal.specs.Reads.{OnlyReads, Finds, FindsSize, IsFirst, RunsPast, RunsTo, FindsBatch, FindsStaged, EndsAt};
 
 use crate::gate::OPEN;
 use crate::head::{HEAD_LEN, Head, number_in};
@@ -63,7 +63,38 @@ fn read_to<D: Disk>(
     read(disk, len, at, bytes.as_mut_slice())
 }
 
-/// Reads the record at `at` into `bytes`, and answers where the next one begins. The batch ends at `end`.
+/// How long the record at `at` is, if all of it stands there. The batch ends at `end`.
+fn read_size<D: Disk>(
+    disk: &mut D,
+    len: usize,
+    at: usize,
+    end: usize,
+) -> Result<Option<usize>, Error>
+    requires usable { IsTrue (D.Disk.is_usable disk.old) }
+    requires measured { IsTrue (D.Disk.is_clean disk.old) → len ≡ length (D.Disk.seen disk.old) }
+    requires within { at ≤ end }
+    requires fits { end ≤ len }
+    ensures found { IfOk result (λ size. IsTrue (D.Disk.is_clean disk.new)
+        → FindsSize (take end (D.Disk.seen disk.old)) at size) }
+    ensures within { IfOk result (λ size. IfSome size (λ n. at + 8 + n ≤ end)) }
+    ensures cause { IfErr result (OnlyDisk
+        (MoreFaults (D.Disk.faults disk.old) (D.Disk.faults disk.new))) }
+    ensures reads { OnlyReads D.Disk disk.old disk.new }
+{
+    if end - at < 8 {
+        return Ok(None);
+    }
+    let mut head = [0; 8];
+    read(disk, len, at, &mut head)?;
+    let size = number_in(&head) as usize;
+    if size > end - at - 8 {
+        return Ok(None);
+    }
+    Ok(Some(size))
+}
+
+/// Reads the record at `at` into `bytes`, and answers where the next one begins. The batch ends at `end`. Bytes before
+/// the end that don't have all of a record are read as one: it is damaged.
 fn read_record<D: Disk>(
     disk: &mut D,
     len: usize,
@@ -82,24 +113,22 @@ fn read_record<D: Disk>(
         (MoreFaults (D.Disk.faults disk.old) (D.Disk.faults disk.new)) Never) }
     ensures reads { OnlyReads D.Disk disk.old disk.new }
 {
-    if end - at < 8 {
+    if at == end {
         return Ok(None);
     }
-    let mut head = [0; 8];
-    read(disk, len, at, &mut head)?;
-    let size = number_in(&head) as usize;
+    let Some(size) = read_size(disk, len, at, end)? else {
+        read_to(disk, len, at, end - at, bytes)?;
+        return Ok(Some(end));
+    };
     let start = at + 8;
-    if size > end - start {
-        return Ok(None);
-    }
     read_to(disk, len, start, size, bytes)?;
     Ok(Some(start + size))
 }
 
 /// The first record of these bytes, and what follows it, if all of it is there.
 fn split_record(bytes: &[u8]) -> Option<(&[u8], &[u8])>
-    ensures some { IfSome result (λ it. first bytes.now ≡ Some (it.0.now, it.1.now)) }
-    ensures none { IfNone result (first bytes.now ≡ None) }
+    ensures some { IfSome result (λ it. IsFirst bytes.now (it.0.now, it.1.now)) }
+    ensures none { IfNone result (length bytes.now < 8 + number_of (take 8 bytes.now)) }
 {
     if bytes.len() < 8 {
         return None;
@@ -113,12 +142,12 @@ fn split_record(bytes: &[u8]) -> Option<(&[u8], &[u8])>
 }
 
 /// Runs the machine over a record.
-fn apply<M: Machine>(machine: &mut M, time: u64, record: &[u8]) -> Result<(), Error>
-    ensures step { OnOk result (M.steps machine.old time record.now machine.new) }
+fn apply<M: Machine>(machine: &mut M, time: u64, bytes: &[u8]) -> Result<(), Error>
+    ensures step { OnOk result (M.steps machine.old time bytes.now machine.new) }
     ensures keeps { (first : M) → M.keeps first machine.old → M.keeps first machine.new }
     ensures cause { IfErr result (OnlyReplay Never (M.has_refused machine.new)) }
 {
-    match machine.apply(time, record) {
+    match machine.apply(time, bytes) {
         Ok(()) => Ok(()),
         Err(error) => Err(Error::Machine(error)),
     }
@@ -246,7 +275,7 @@ fn read_staged<D: Disk>(
 }
 
 /// Reads the head of the batch with this number, if its gate stands open at `at` and all of it is there.
-fn read_head<D: Disk>(
+pub fn read_head<D: Disk>(
     disk: &mut D,
     len: usize,
     at: usize,
@@ -277,39 +306,13 @@ fn read_head<D: Disk>(
     Ok(head)
 }
 
-/// How many batches from this number on stand one behind another, from a gate on, whatever the gates say. Nothing is
-/// read but heads.
-pub fn count_later<D: Disk>(
-    disk: &mut D,
-    len: usize,
-    gate: usize,
-    number: usize,
-) -> Result<usize, Error>
-    requires usable { IsTrue (D.Disk.is_usable disk.old) }
-    requires measured { IsTrue (D.Disk.is_clean disk.old) → len ≡ length (D.Disk.seen disk.old) }
-    requires within { gate ≤ len }
-    requires fits { len < 2 ^ 63 }
-    requires few { number ≤ gate }
-    ensures counted { IfOk result (λ n. IsTrue (D.Disk.is_clean disk.new)
-        → n ≡ length (later number (drop gate (D.Disk.seen disk.old)))) }
-    ensures cause { IfErr result (OnlyDisk
-        (MoreFaults (D.Disk.faults disk.old) (D.Disk.faults disk.new))) }
-    ensures reads { OnlyReads D.Disk disk.old disk.new }
-{
-    let mut at = gate;
-    let mut found = 0;
-    while let Some(head) = read_staged(disk, len, at, number + found)? {
-        at += SECTOR + whole(HEAD_LEN + head.len);
-        found += 1;
-    }
-    Ok(found)
-}
-
 /// Where the batches of a file end, and how many there are.
 #[derive(Clone, Copy)]
 pub struct End {
     pub at: usize,
     pub count: usize,
+    /// One of them has no record.
+    pub has_mark: bool,
 }
 
 /// Runs the machine over the batches behind the first line.
@@ -328,6 +331,8 @@ pub fn replay<D: Disk, M: Machine>(
     ensures keeps { (first : M) → M.keeps first machine.old → M.keeps first machine.new }
     ensures end { IfOk result (λ end. IsTrue (D.Disk.is_clean disk.new)
         → EndsAt (D.Disk.seen disk.old) end.at end.count) }
+    ensures marked { IfOk result (λ end. IsTrue (D.Disk.is_clean disk.new)
+        → end.has_mark ≡ has_mark (stored (D.Disk.seen disk.old))) }
     ensures begins { IfOk result (λ end. (sector ≤ end.at) × (end.at % 4096 ≡ 0)) }
     ensures within { IfOk result (λ end. (end.at ≤ len) × (end.count ≤ end.at)) }
     ensures cause { IfErr result (OnlyReplay
@@ -338,6 +343,7 @@ pub fn replay<D: Disk, M: Machine>(
     let mut bytes = Vec::new(alloc);
     let mut at = SECTOR;
     let mut count = 0;
+    let mut has_mark = false;
     while let Some(head) = read_head(disk, len, at, count)? {
         let start = at + SECTOR + HEAD_LEN;
         run_records(
@@ -349,8 +355,13 @@ pub fn replay<D: Disk, M: Machine>(
             &mut bytes,
             machine,
         )?;
+        has_mark |= head.len == 0;
         at += SECTOR + whole(HEAD_LEN + head.len);
         count += 1;
     }
-    Ok(End { at, count })
+    Ok(End {
+        at,
+        count,
+        has_mark,
+    })
 }

@@ -1,7 +1,7 @@
 //! A journal over a disk in memory that fails from some call on. What was not synced is then lost, kept or torn, sector
 //! by sector, as a seed says; what is recovered is compared with the list that a plain program would have.
 use crate::text::{START, Text, batch_of, empty_text, line, model};
-use journal::{Error, Journal};
+use journal::{Ending, Error, Journal};
 use sqlite_disk::{Crash, Disk, Fuse, Memory};
 use std::alloc::Global;
 use std::io;
@@ -36,14 +36,14 @@ fn torn(alloc: Global, old: &[u8], new: &[u8], seed: u64) -> io::Result<Memory> 
     Ok(disk)
 }
 
-/// Recovers a file, after a recovery that is cut off at a call. Behind its end one batch stands at most.
+/// Recovers a file, after a recovery that is cut off at a call. It doesn't end as a broken one.
 fn recovered(alloc: Global, disk: Memory, calls: u64) -> Result<Text, Error> {
     let mut journal = Journal::new(Fuse::new(disk, calls), line()?);
     let _ = journal.recover(alloc, &mut empty_text(alloc));
     journal.crash();
     let mut text = empty_text(alloc);
     journal.recover(alloc, &mut text)?;
-    if journal.later_batches()? > 1 {
+    if journal.ending()? == Ending::Broken {
         return Err(Error::TooLong);
     }
     Ok(text)

@@ -1,4 +1,4 @@
-//! A full disk, a gate that is damaged, and files that are refused.
+//! A full disk, and files that are refused.
 use crate::crashes::lived;
 use crate::full::Full;
 use crate::long::Long;
@@ -33,14 +33,6 @@ fn changed(alloc: Global, at: usize, byte: u8) -> Result<Memory, Error> {
     file_of(alloc, &bytes)
 }
 
-/// How many batches a changed file has, and how many stand behind them.
-fn counted(alloc: Global, at: usize, byte: u8) -> Result<(usize, usize), Error> {
-    let mut journal = Journal::new(changed(alloc, at, byte)?, line()?);
-    journal.recover(alloc, &mut empty_text(alloc))?;
-    let later = journal.later_batches()?;
-    Ok((journal.count(), later))
-}
-
 /// The version stands in the second eight bytes.
 #[test]
 fn another_version_is_refused_by_name(rt: HostRuntime) -> Result<(), Fail> {
@@ -53,19 +45,6 @@ fn another_version_is_refused_by_name(rt: HostRuntime) -> Result<(), Fail> {
         Err(error) => Err(error),
     };
     assert!(rt; matches!(opened, Err(Error::OtherVersion)));
-    Ok(())
-}
-
-/// The gates stand at 4,096, 12,288, 24,576, 49,152 and 57,344, and the last one, which is shut, at 69,632.
-#[test]
-fn a_damaged_gate_is_told(rt: HostRuntime) -> Result<(), Fail> {
-    let alloc = rt.alloc();
-    let none = counted(alloc, 69_632, 0).unwrap_or((9, 9));
-    assert_eq!(rt; none, (5, 0));
-    let third = counted(alloc, 24_576, 0).unwrap_or((9, 9));
-    assert_eq!(rt; third, (2, 3));
-    let first = counted(alloc, 4096, 7).unwrap_or((9, 9));
-    assert_eq!(rt; first, (0, 5));
     Ok(())
 }
 

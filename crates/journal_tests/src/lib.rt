@@ -1,9 +1,11 @@
-//! Tests of `journal`, in a crate of their own: power cuts at every call, with a model beside the disk; a full disk, a
-//! gate that is damaged, batches that are longer than a piece, and files that are refused.
+//! Tests of `journal`, in a crate of their own: power cuts at every call, with a model beside the disk; a full disk,
+//! damage between the batches, batches that are longer than a piece, and files that are refused.
 #![tactic(auto)]
 
 #[cfg(test)]
 mod crashes;
+#[cfg(test)]
+mod endings;
 #[cfg(test)]
 mod faults;
 #[cfg(test)]

@@ -69,8 +69,8 @@ pub fn foresee<D: Disk>(
         survey: Survey::new(alloc, limits),
         scales: Scales::new(alloc, limits),
     };
-    let is_shut = match journal.look(alloc, &mut outlook) {
-        Ok(is_shut) => is_shut,
+    let looked = match journal.look(alloc, &mut outlook) {
+        Ok(looked) => looked,
         Err(error) => return Err(error),
     };
     let Outlook { survey, mut scales } = outlook;
@@ -82,6 +82,6 @@ pub fn foresee<D: Disk>(
     forget_all(&mut scales, &tables, &gone);
     Ok(Forecast {
         gone,
-        weight: scales.weight(is_shut),
+        weight: scales.weight(looked),
     })
 }

@@ -4,7 +4,7 @@ ghost use Rattle.journal.specs.Journal.{disk_of};
 ghost use Rattle.journal.specs.Reads.{OnlyReads};
 
 use crate::numbers::files_in;
-use journal::{Error, Journal, Machine};
+use journal::{Error, Journal, Looked, Machine};
 use sqlite_disk::Disk;
 use std::alloc::{AllocError, Global};
 use std::collections::BTreeMap;
@@ -75,8 +75,8 @@ pub struct Weight {
     pub dead: Amount,
     /// How many records are no entries: they are damaged.
     pub unread: u64,
-    /// Whether the gate behind the last batch was never opened. Else the journal was only begun, or is damaged there.
-    pub is_shut: bool,
+    /// How the journal ends, and whether others are lost before it.
+    pub looked: Looked,
 }
 
 /// What an open upload has.
@@ -193,13 +193,13 @@ impl Scales {
     }
 
     /// What the records come to. The gate behind the last batch may be shut.
-    pub(crate) fn weight(&self, is_shut: bool) -> Weight {
+    pub(crate) fn weight(&self, looked: Looked) -> Weight {
         let needed = self.needed();
         Weight {
             needed,
             dead: self.all.without(needed),
             unread: self.unread,
-            is_shut,
+            looked,
         }
     }
 
@@ -254,9 +254,9 @@ pub fn weigh<D: Disk>(
         → OnlyReads D.Disk (disk_of journal.old) (disk_of journal.new) }
 {
     let mut scales = Scales::new(alloc, limits);
-    let is_shut = match journal.look(alloc, &mut scales) {
-        Ok(is_shut) => is_shut,
+    let looked = match journal.look(alloc, &mut scales) {
+        Ok(looked) => looked,
         Err(error) => return Err(error),
     };
-    Ok(scales.weight(is_shut))
+    Ok(scales.weight(looked))
 }

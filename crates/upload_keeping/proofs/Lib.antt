@@ -5,4 +5,4 @@ mod Going
 mod Replays
 mod Recovery
 mod Without
-mod Unchanged
+mod Known

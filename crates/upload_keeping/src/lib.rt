@@ -26,7 +26,7 @@ mod sound;
 mod told;
 mod writing;
 
-pub use ahead::{Begun, open_ahead, salvage_ahead};
+pub use ahead::{open_ahead, salvage_ahead};
 pub use begin::open;
 pub use fault::KeepFault;
 pub use host::KeepingHost;

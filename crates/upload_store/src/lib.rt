@@ -6,7 +6,6 @@
 #![tactic(auto)]
 
 mod ahead;
-mod behind;
 mod crash;
 mod fault;
 mod files;
@@ -19,8 +18,10 @@ mod rescue;
 mod store;
 mod synced;
 
+pub use ahead::most_ahead;
 pub use crash::CrashShelf;
 pub use fault::{Loss, RefusedRecord, StoreFault};
+pub use hints::hint_of;
 pub use life::{Round, keep_each, live_on, restart};
 pub use losses::{Losses, Salvage};
 pub use store::Store;

@@ -1,6 +1,6 @@
 use Rattle.std.proofs.Common.{◌≡◌, length, length-take, ap, arith, rules}
 use Rattle.journal.specs.Format.{sector}
-use Rattle.journal.proofs.Ending.{begun_follows}
+use Rattle.journal.proofs.Repaired.{begun_follows}
 use Rattle.journal.proofs.Causes.{because_weaker}
 use Rattle.journal.proofs.line.begin.Goals as goal
 

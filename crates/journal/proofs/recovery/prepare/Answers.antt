@@ -1,7 +1,7 @@
 use Rattle.std.proofs.Common.{◌∙◌, subst, arith}
 use Rattle.journal.specs.Format.{Rests}
 use Rattle.journal.specs.Reads.{Repairs}
-use Rattle.journal.proofs.Ending.{same_repaired, line_repaired, rests_repaired}
+use Rattle.journal.proofs.Repaired.{same_repaired, line_repaired, rests_repaired}
 use Rattle.journal.proofs.recovery.prepare.Goals as goal
 
 pub returns-in_err-len-clause-any_crash : goal.returns-in_err-len-clause-any_crash

@@ -1,32 +1,57 @@
-use Rattle.std.proofs.Common.{◌≡◌, ◌+◌, take, drop, Some, arith, rules, ap, sym, ◌∙◌}
-use Rattle.journal.specs.Format.{number_of}
-use Rattle.journal.proofs.Scan.{none_tiny, none_past, found_record}
+use Rattle.std.proofs.Common.{◌≡◌, ◌+◌, ◌-◌, [], length, take, drop, Some, None, arith, rules, ap, sym, subst, ◌∙◌}
+use Rattle.std.proofs.Common.{length-drop, length-take}
+use Rattle.std.proofs.lemmas.List.{nil_from_length, drop_all, drop-take}
+use Rattle.journal.specs.Format.{first}
+use Rattle.journal.specs.Reads.{FindsSize}
+use Rattle.journal.proofs.Places.{take_within}
+use Rattle.journal.proofs.Reading.{first_nil}
 use Rattle.journal.proofs.replay.read_record.Goals as goal
 
-pub returns-then-end-at-lt8-clause-found : goal.returns-then-end-at-lt8-clause-found
-returns-then-end-at-lt8-clause-found g c clean =
-    none_tiny (g.D.Disk.seen c.args.disk.now) c.args.at c.args.end (omega (arith, c.requires.measured clean))
-    (omega arith)
+pub returns-then-at-end-clause-found : goal.returns-then-at-end-clause-found
+returns-then-at-end-clause-found g c clean =
+    let file = take c.args.end (g.D.Disk.seen c.args.disk.now) in
+    ap first (nil_from_length (drop c.args.at file) (omega (
+      arith,
+      c.if-at-end.true,
+      length-drop c.args.at file,
+      length-take c.args.end (g.D.Disk.seen c.args.disk.now),
+    ))) ∙ first_nil
 
-pub returns-then-size-end-clause-found : goal.returns-then-size-end-clause-found
-returns-then-size-end-clause-found g c clean =
-    let old_clean = c.read.ensures.reads.clean clean in
-    none_past (g.D.Disk.seen c.args.disk.now) c.args.at c.args.end (omega (arith, c.requires.measured old_clean))
-    c.read.new.bytes
-    (c.in_ok-read.ensures.read clean (search rules)) (search rules) (omega arith)
-    (omega (arith, c.if-size-end.true, c.number_in-size.ensures))
+pub returns-in_default-clause-found : goal.returns-in_default-clause-found
+returns-in_default-clause-found g c clean =
+    let seen = g.D.Disk.seen c.args.disk.now in
+    let file = take c.args.end seen in
+    let at = c.args.at in
+    let mid_clean = c.read_to.ensures.reads.clean clean in
+    let long : length file ≡ c.args.end = omega (
+      arith,
+      length-take c.args.end seen,
+      c.requires.measured (c.read_size.ensures.reads.clean mid_clean),
+      c.requires.fits,
+    ) in
+    let part : FindsSize file at None = subst (λ n. FindsSize file at n) c.in_default.is
+    (c.in_ok-size.ensures.found mid_clean) in
+    let body : take (c.args.end - at) (drop at seen) ≡ c.read_to.new.bytes.items =
+    ap (λ l. take (c.args.end - at) (drop at l)) (sym c.read_size.ensures.reads.seen) ∙ c.in_ok-read_to.ensures.read
+    clean in
+    let on : at + (c.args.end - at) ≡ c.args.end = omega (arith, c.requires.within) in
+    let rest : drop at file ≡ c.read_to.new.bytes.items =
+    ap (λ n. drop at (take n seen)) (sym on) ∙ drop-take at (c.args.end - at) seen ∙ body in
+    part (omega (arith, length-drop at file, long, c.if-at-end.false, c.requires.within))
+    ∙ ap (λ l. Some (l, [])) rest
+    ∙ ap (λ l. Some (c.read_to.new.bytes.items, l)) (sym (drop_all c.args.end file (omega (arith, long))))
 
 pub returns-clause-found : goal.returns-clause-found
 returns-clause-found g c clean =
-    let file = g.D.Disk.seen c.args.disk.now in
-    let mid_clean = c.read_to.ensures.reads.clean clean in
-    let old_clean = c.read.ensures.reads.clean mid_clean in
-    let size : c.number_in-size.result ≡ number_of c.read.new.bytes = c.number_in-size.ensures in
-    let body : take (number_of c.read.new.bytes) (drop (c.args.at + 8) file) ≡ c.read_to.new.bytes.items =
-    ap (λ n. take n (drop (c.args.at + 8) file)) (sym size) ∙ ap
-    (λ l. take c.number_in-size.result (drop (c.args.at + 8) l)) (sym c.read.ensures.reads.seen) ∙
-    c.in_ok-read_to.ensures.read clean in
-    found_record file c.args.at c.args.end (omega (arith, c.requires.measured old_clean)) c.read.new.bytes
-    (c.in_ok-read.ensures.read mid_clean (search rules)) (search rules) (omega arith) c.read_to.new.bytes.items
-    (omega (arith, size)) body
-    ∙ ap (λ n. Some (c.read_to.new.bytes.items, drop (c.args.at + 8 + n) (take c.args.end file))) (sym size)
+    let seen = g.D.Disk.seen c.args.disk.now in
+    let file = take c.args.end seen in
+    let at = c.args.at in
+    let size = c.in-Some.size in
+    let mid_clean = c.read_to-2.ensures.reads.clean clean in
+    let found : FindsSize file at (Some size) = subst (λ n. FindsSize file at n) c.in-Some.is
+    (c.in_ok-size.ensures.found mid_clean) in
+    let body : take size (drop (at + 8) seen) ≡ c.read_to-2.new.bytes.items =
+    ap (λ l. take size (drop (at + 8) l)) (sym c.read_size.ensures.reads.seen) ∙ c.in_ok-read_to-2.ensures.read clean
+    in
+    found ∙ ap (λ l. Some (l, drop (at + 8 + size) file))
+    (take_within seen (at + 8) size c.args.end (search (rules, arith, c.in_ok-size.ensures.within)) ∙ body)

@@ -1,10 +1,11 @@
-use Rattle.std.proofs.Common.{◌≡◌, ◌+◌, ◌++◌, ◌∷◌, [], Some, None, length, take, drop, length-append}
+use Rattle.std.proofs.Common.{◌≡◌, ◌+◌, ◌≤◌, ◌++◌, ◌∷◌, [], Some, None, length, take, drop, length-append, length-drop}
 use Rattle.std.proofs.Common.{refl, subst, sym, ap, ◌∙◌, arith, rules}
 use Rattle.std.proofs.lemmas.List.{drop-take}
-use Rattle.journal.specs.Format.{records, next, sector, whole}
+use Rattle.journal.specs.Format.{records, next, has_mark, sector, whole}
 use Rattle.journal.specs.Machine.{Runs, RunsRecords}
 use Rattle.journal.specs.Reads.{FindsBatch}
 use Rattle.journal.proofs.Listing.{is_whole}
+use Rattle.journal.proofs.Marks.{marked_more}
 use Rattle.journal.proofs.Scan.{read_none, read_more, read_all, runs_more}
 use Rattle.journal.proofs.replay.replay.Goals as goal
 
@@ -56,12 +57,15 @@ loop-bytes-preserved g c =
           c.run_records.new.machine =
           subst (λ rs. RunsRecords g.M.Machine.steps head.time c.loop-bytes.machine rs c.run_records.new.machine)
           same_records (c.in_ok-run_records.ensures.ran clean) in
+          let inside : at + sector + 24 + head.len ≤ c.args.len = search (rules, arith, c.in_ok-head.ensures.records) in
           let len_is = c.requires.measured (so_far.reads.clean (one.clean mid_clean)) in (
             before.0 ++ (head.time, records_here) ∷ [],
             read_more file before.0 at (at + (4096 + c.whole.result)) (head.time, records_here) before.1 (omega arith)
                 (search (rules, arith, c.in_ok-head.ensures.within, c.whole.ensures, len_is)) at_done,
             ap (λ n. n + 1) before.2 ∙ sym (length-append before.0 ((head.time, records_here) ∷ [])),
-            runs_more g.M.Machine.steps _ _ _ before.0 (head.time, records_here) before.3 ran,
+            marked_more c.loop-bytes.has_mark head.time head.len before.0 (drop (at + sector + 24) file) before.3
+                (omega (arith, length-drop (at + sector + 24) file, len_is, inside)),
+            runs_more g.M.Machine.steps _ _ _ before.0 (head.time, records_here) before.4 ran,
           );
     }
 
@@ -81,7 +85,7 @@ loop-bytes-init g c = record {
             may. may;
       };
   others = λ first kept. kept;
-  ran = λ clean. ([], read_none (g.D.Disk.seen c.args.disk.now), refl, refl);
+  ran = λ clean. ([], read_none (g.D.Disk.seen c.args.disk.now), refl, refl, refl);
 }
 
 pub returns-clause-ran : goal.returns-clause-ran
@@ -97,7 +101,7 @@ returns-clause-ran g c clean =
     let len_is = c.requires.measured (so_far.reads.clean old_clean) in
     subst (λ l. Runs g.M.Machine.steps c.args.machine.now l c.loop-bytes.machine)
     (sym (read_all file before.0 c.loop-bytes.at c.loop-bytes.count before.1 before.2
-    (omega (arith, so_far.within, len_is)) none).0) before.3
+    (omega (arith, so_far.within, len_is)) none).0) before.4
 
 pub returns-clause-end : goal.returns-clause-end
 returns-clause-end g c clean =
@@ -112,3 +116,17 @@ returns-clause-end g c clean =
     let len_is = c.requires.measured (so_far.reads.clean old_clean) in
     (read_all file before.0 c.loop-bytes.at c.loop-bytes.count before.1 before.2
     (omega (arith, so_far.within, len_is)) none).1
+
+pub returns-clause-marked : goal.returns-clause-marked
+returns-clause-marked g c clean =
+    let file = g.D.Disk.seen c.args.disk.now in
+    let so_far = c.loop-bytes.invariant in
+    let old_clean = c.read_head.ensures.reads.clean clean in
+    let before = so_far.ran old_clean in
+    let none : next c.loop-bytes.count (drop c.loop-bytes.at file) ≡ None =
+    subst (λ f. next c.loop-bytes.count (drop c.loop-bytes.at f) ≡ None) so_far.reads.seen
+    (subst (λ n. FindsBatch (g.D.Disk.seen c.loop-bytes.disk) c.loop-bytes.at c.loop-bytes.count n) c.in_default.is
+    (c.in_ok-head.ensures.found clean)) in
+    let len_is = c.requires.measured (so_far.reads.clean old_clean) in
+    before.3 ∙ ap has_mark (sym (read_all file before.0 c.loop-bytes.at c.loop-bytes.count before.1 before.2
+    (omega (arith, so_far.within, len_is)) none).0)

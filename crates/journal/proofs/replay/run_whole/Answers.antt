@@ -1,14 +1,16 @@
-use Rattle.std.proofs.Common.{◌≡◌, ◌++◌, ◌∷◌, [], List, ℕ, Some, subst, sym, ap, ◌∙◌}
+use Rattle.std.proofs.Common.{◌≡◌, ◌++◌, ◌∷◌, [], List, ℕ, subst, sym, ap, ◌∙◌}
 use Rattle.std.proofs.Common.{append_assoc}
-use Rattle.journal.specs.Format.{records, first}
+use Rattle.journal.specs.Format.{records}
+use Rattle.journal.specs.Reads.{IsFirst}
 use Rattle.journal.proofs.Reading.{first_less}
 use Rattle.journal.proofs.Scan.{records_more}
-use Rattle.journal.proofs.Pieces.{records_on, left_of, left_is}
+use Rattle.journal.proofs.Pieces.{first_is, records_on, left_of, left_is}
 use Rattle.journal.proofs.replay.run_whole.Goals as goal
 
 pub loop-record-smaller : goal.loop-record-smaller
 loop-record-smaller g c =
-    first_less c.loop-record.rest.now (c.in-Some.record.now, c.in-Some.behind.now) c.in-Some.ensures.some
+    first_less c.loop-record.rest.now (c.in-Some.record.now, c.in-Some.behind.now)
+    (first_is c.loop-record.rest.now (c.in-Some.record.now, c.in-Some.behind.now) c.in-Some.ensures.some)
 
 pub loop-record-preserved : goal.loop-record-preserved
 loop-record-preserved g c =
@@ -16,7 +18,7 @@ loop-record-preserved g c =
     let rest = c.loop-record.rest.now in
     let one = c.in-Some.record.now in
     let behind = c.in-Some.behind.now in
-    let here : first rest ≡ Some (one, behind) = c.in-Some.ensures.some in
+    let here : IsFirst rest (one, behind) = c.in-Some.ensures.some in
     let before = so_far.ran in
     record {
       others = λ first kept. c.apply.ensures.keeps first (so_far.others first kept);

@@ -7,36 +7,33 @@ use Rattle.upload_store.specs.Store.{IsClean, IsWhole, disk_of, kept_of, shelf_o
 use Rattle.upload_store.specs.declared.store.Store.{Store}
 use Rattle.upload_keeping.specs.Books.{moment_of}
 use Rattle.upload_keeping.proofs.Going.{whole_at_rest}
-use Rattle.upload_keeping.proofs.Unchanged.{told_ok, told_err, some_so, ran_since, same_since, reads_since}
+use Rattle.upload_keeping.proofs.Known.{told_ok, told_err}
 use Rattle.upload_keeping.proofs.ahead.open_ahead.Goals as goal
 
 pub begin-requires-clause-ran : goal.begin-requires-clause-ran
 begin-requires-clause-ran g c whole clean =
     let told = c.recover_ahead-store.ensures in
     let known = c.in-Ok.is in
-    let unchanged = c.count_behind-behind.ensures.same in
-    let now = c.count_behind-behind.new.store in
+    let now = c.recover_ahead-store.result.0 in
     let files = g.S.Shelf.held (shelf_of now) in
     let replay = c.in-Ok.replay in
     let begin = start_of (empty_state (limits_of c.args.store) 0) in
-    subst (λ (l : Limits). IsReplayOf (kept_of now) files (start_of (empty_state l 0)) replay)
-    (sym (unchanged.limits ∙ told.limits))
-    (subst (λ all. IsReplayOf all files begin replay) (sym (same_since c.args.store unchanged (told_ok _ _ _ known told.same) clean))
-    (ran_since c.args.store unchanged begin replay (told_ok _ _ _ known told.ran) clean))
+    subst (λ (l : Limits). IsReplayOf (kept_of now) files (start_of (empty_state l 0)) replay) (sym told.limits)
+    (subst (λ all. IsReplayOf all files begin replay) (sym (told_ok _ _ _ known told.same clean))
+    (told_ok _ _ _ known told.ran clean))
 
-pub returns-clause-recovered : goal.returns-clause-recovered
-returns-clause-recovered g c =
+pub returns-in-Ok-clause-recovered : goal.returns-in-Ok-clause-recovered
+returns-in-Ok-clause-recovered g c =
     let old = c.args.store in
     let told = c.recover_ahead-store.ensures in
     let known = c.in-Ok.is in
-    let unchanged = c.count_behind-behind.ensures.same in
-    let now = c.count_behind-behind.new.store in
+    let now = c.recover_ahead-store.result.0 in
     let is = sym c.begin.ensures.store.0 in
     let Over : Type 0 = Store g.row.D.Denot g.row.S.Denot g.row.S-File.Denot g.D.Disk g.S.Shelf g.S.File.Disk in
     let begin = start_of (empty_state (limits_of old) 0) in
     let replay = c.in-Ok.replay in
-    let same = same_since c.args.store unchanged (told_ok _ _ _ known told.same) in
-    let ran = ran_since c.args.store unchanged begin replay (told_ok _ _ _ known told.ran) in
+    let same = told_ok _ _ _ known told.same in
+    let ran = told_ok _ _ _ known told.ran in
     record {
       none = c.begin.ensures.none.0;
       opened = c.begin.ensures.store.1 ∙ is;
@@ -49,16 +46,8 @@ returns-clause-recovered g c =
           × (moment_of point ≡ c.begin.result.since)) is
           (λ clean. (replay, ran clean, sym c.begin.ensures.service, sym c.begin.ensures.since));
       whole = λ rest.
-          subst (λ (x : Over). IsWhole x) is
-          (whole_at_rest old now begin replay (reads_since c.args.store unchanged told.reads) same ran rest);
+          subst (λ (x : Over). IsWhole x) is (whole_at_rest old now begin replay told.reads same ran rest);
     }
-
-pub returns-clause-behind : goal.returns-clause-behind
-returns-clause-behind g c =
-    let told = c.recover_ahead-store.ensures in
-    let same = same_since c.args.store c.count_behind-behind.ensures.same (told_ok _ _ _ c.in-Ok.is told.same) in
-    some_so _ _ (λ n counted. (c.count_behind-behind.new.store, same, counted)) c.count_behind-behind.result
-    c.count_behind-behind.ensures.counted
 
 pub returns-in-Err-clause-cause : goal.returns-in-Err-clause-cause
 returns-in-Err-clause-cause g c =

@@ -1,12 +1,12 @@
-use Rattle.std.proofs.Common.{◌∙◌, inl, inr, sym, subst}
+use Rattle.std.proofs.Common.{inl, inr, sym, subst}
 use Rattle.upload_service.specs.Machine.{empty_state}
 use Rattle.upload_service.specs.declared.limits.Limits.{Limits}
 use Rattle.upload_store.specs.Runs.{IsReplayOf, start_of}
 use Rattle.upload_store.specs.Store.{disk_of, kept_of, shelf_of, limits_of}
 use Rattle.upload_store.specs.declared.losses.Losses.{Losses}
 use Rattle.upload_keeping.specs.Begun.{BeginsWithout}
+use Rattle.upload_keeping.proofs.Known.{told_ok, told_err}
 use Rattle.upload_keeping.proofs.Without.{begins_without}
-use Rattle.upload_keeping.proofs.Unchanged.{told_ok, told_err, some_so, same_since, saved_since}
 use Rattle.upload_keeping.proofs.ahead.salvage_ahead.Goals as goal
 
 pub returns-in-Ok-begin_without-clause-salvaged : goal.returns-in-Ok-begin_without-clause-salvaged
@@ -14,18 +14,17 @@ returns-in-Ok-begin_without-clause-salvaged g c =
     let told = c.salvage_ahead-store.ensures in
     let known = c.in-Ok.is in
     let saved = c.in-Ok.saved in
-    let kept = c.in-Ok-begin_without.begun.kept in
+    let kept = c.in-Ok-begin_without.salvaged.kept in
     let over = c.in-Ok-begin_without.ensures in
-    let now = c.count_behind-behind.new.store in
     subst (λ (losses : Losses). BeginsWithout c.args.store kept.keeping kept.service kept.since losses) (sym over.losses)
-    (begins_without c.args.store now kept.keeping kept.service kept.since saved.replay saved.losses
-    (saved_since c.args.store c.count_behind-behind.ensures.same saved.replay saved.losses
+    (begins_without c.args.store c.salvage_ahead-store.result.0 kept.keeping kept.service kept.since saved.replay
+    saved.losses
     (record {
       ran = told_ok _ _ _ known told.ran;
       same = told_ok _ _ _ known told.same;
       unnamed = told_ok _ _ _ known told.unnamed;
       reads = told.reads;
-    }))
+    })
     (record {
       none = over.none.0;
       opened = over.opened;
@@ -38,13 +37,6 @@ returns-in-Ok-begin_without-clause-salvaged g c =
       since_is = over.service.1;
     }))
 
-pub returns-in-Ok-begin_without-clause-behind : goal.returns-in-Ok-begin_without-clause-behind
-returns-in-Ok-begin_without-clause-behind g c =
-    let told = c.salvage_ahead-store.ensures in
-    let same = same_since c.args.store c.count_behind-behind.ensures.same (told_ok _ _ _ c.in-Ok.is told.same) in
-    some_so _ _ (λ n counted. (c.count_behind-behind.new.store, same, counted)) c.count_behind-behind.result
-    c.count_behind-behind.ensures.counted
-
 pub returns-in-Err-clause-cause : goal.returns-in-Err-clause-cause
 returns-in-Err-clause-cause g c =
     let why = told_err _ _ _ c.in-Err.is c.salvage_ahead-store.ensures.cause in
@@ -54,27 +46,23 @@ returns-in-Err-clause-cause g c =
 pub returns-in-Err-begin_without-clause-cause : goal.returns-in-Err-begin_without-clause-cause
 returns-in-Err-begin_without-clause-cause g c =
     let told = c.salvage_ahead-store.ensures in
-    let unchanged = c.count_behind-behind.ensures.same in
-    let same = same_since c.args.store unchanged (told_ok _ _ _ c.in-Ok.is told.same) in
+    let known = c.in-Ok.is in
     let why = c.in-Err-begin_without.ensures.cause in
-    inr (c.count_behind-behind.new.store, unchanged.opened, same, (c.in-Ok.saved.replay.state.issued, why.0, why.1))
+    inr (
+      c.salvage_ahead-store.result.0,
+      told_ok _ _ _ known told.open,
+      told_ok _ _ _ known told.same,
+      (c.in-Ok.saved.replay.state.issued, why.0, why.1),
+    )
 
 pub begin_without-requires-clause-whole : goal.begin_without-requires-clause-whole
 begin_without-requires-clause-whole g c none clean =
     let told = c.salvage_ahead-store.ensures in
     let known = c.in-Ok.is in
-    let unchanged = c.count_behind-behind.ensures.same in
-    let now = c.count_behind-behind.new.store in
+    let now = c.salvage_ahead-store.result.0 in
     let files = g.S.Shelf.held (shelf_of now) in
     let saved = c.in-Ok.saved in
     let start = start_of (empty_state (limits_of c.args.store) 0) in
-    let since = saved_since c.args.store unchanged saved.replay saved.losses
-    (record {
-      ran = told_ok _ _ _ known told.ran;
-      same = told_ok _ _ _ known told.same;
-      unnamed = told_ok _ _ _ known told.unnamed;
-      reads = told.reads;
-    }) in
-    subst (λ (l : Limits). IsReplayOf (kept_of now) files (start_of (empty_state l 0)) saved.replay)
-    (sym (unchanged.limits ∙ told.limits))
-    (subst (λ all. IsReplayOf all files start saved.replay) (sym (since.same clean)) ((since.ran clean).none_lost none))
+    subst (λ (l : Limits). IsReplayOf (kept_of now) files (start_of (empty_state l 0)) saved.replay) (sym told.limits)
+    (subst (λ all. IsReplayOf all files start saved.replay) (sym (told_ok _ _ _ known told.same clean))
+    ((told_ok _ _ _ known told.ran clean).none_lost none))

@@ -17,3 +17,6 @@ returns-clause-named g c clean =
     (texts_of (kept c.args.journal.now))
     (noted c.new-named.result (kept c.args.journal.now) c.look.new.machine (c.in-Ok.ensures.ran clean))
     c.args.shelf.now c.remove_others.new.shelf c.remove_others.ensures.keeps
+
+pub returns-in-Ok-remove_others-clause-ends : goal.returns-in-Ok-remove_others-clause-ends
+returns-in-Ok-remove_others-clause-ends g c clean = (c.in-Ok.ensures.ends clean, c.in-Ok.ensures.marked clean)
