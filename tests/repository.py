@@ -70,6 +70,7 @@ NO_CLAUSE = {
         "open_journal",
         "open_shelf",
         "look_at_journal",
+        "refuse_cut",
         "is_there",
         "compact_data",
         "weigh_data",

@@ -589,6 +589,24 @@ def broken_ends(folder):
 
 
 @case()
+def cut_before_its_first_record(folder):
+    """Bodies whose journal was cut before its first record are left as they are, by each start and by a compaction."""
+    path = os.path.join(folder, "data")
+    with serving(path) as server, server.client() as client:
+        equal("a push", client.push(NAME, CONTENTS[-1])[-1], 201)
+    for size in (2 * SECTOR - 1, SECTOR, 100, 0):
+        os.truncate(f"{path}/journal", size)
+        for strict in "10":
+            is_refused(f"a journal of {size} bytes", path, "its journal is empty", BLOBD_STRICT=strict)
+        told, status, more = run("compact", path)
+        check(f"{size} bytes aren't compacted", (told, status) == REFUSED and "its journal is empty" in more, more)
+    shutil.rmtree(f"{path}/bodies")
+    os.mkdir(f"{path}/bodies", 0o700)
+    with serving(path) as server, server.client() as client:
+        equal("a push behind a journal that was cut, without bodies", client.push(NAME, b"a")[-1], 201)
+
+
+@case()
 def torn_gate(folder):
     """A gate that was being opened, as a power cut may leave it, is no damage: the start isn't refused for it. No file goes
     before the journal ends as usual again."""

@@ -4,7 +4,7 @@ ghost use Rattle.upload_service.specs.Machine.{AreLawful};
 
 use crate::fault::DataFault;
 use crate::line::line_of;
-use crate::open::{FRESH, JOURNAL, open_journal, open_shelf};
+use crate::open::{FRESH, JOURNAL, open_journal, open_shelf, refuse_cut};
 use crate::texts::StoreText;
 use blobd_shared::{ByteCount, Quantity};
 use bodies::{AheadShelf, Holds, Shelf};
@@ -249,14 +249,17 @@ fn compact_in<R: Threads, J: Start, N: Start, S: Start, H: Holds>(
     requires lawful { AreLawful limits }
     requires empty { S.Start.db ≡ [] }
 {
-    let file = match open_journal(rt, folder, JOURNAL, start) {
+    let mut file = match open_journal(rt, folder, JOURNAL, start) {
         Ok(file) => file,
         Err(fault) => return Err(CompactingFault::Data(fault)),
     };
-    let shelf = match open_shelf::<S, H>(rt, folder) {
+    let mut shelf = match open_shelf::<S, H>(rt, folder) {
         Ok(shelf) => shelf,
         Err(fault) => return Err(CompactingFault::Data(fault)),
     };
+    if let Err(fault) = refuse_cut(rt, &mut file, &mut shelf) {
+        return Err(CompactingFault::Data(fault));
+    }
     let none = Vec::new(rt.alloc());
     let shelf = AheadShelf::new(threads, rt.alloc(), shelf, none, most_ahead(memory));
     let fresh = open_fresh(rt, folder, fresh_start)?;

@@ -18,6 +18,8 @@ pub enum DataFault {
     NoBodies,
     /// It has bodies, and no journal that says what they are.
     NoJournal,
+    /// It has bodies, and its journal was cut before its first record.
+    EmptyJournal,
     /// Its journal ends as no crash leaves it: batches of records are lost there.
     BrokenJournal,
     /// What it has can't be read, or is not what a server with these limits has written.
@@ -52,6 +54,7 @@ impl fmt::Display for DataFault {
             DataFault::Bodies(fault) => write!(f, "bodies: {fault}"),
             DataFault::NoBodies => f.write_str("it has a journal, but its bodies are missing"),
             DataFault::NoJournal => f.write_str("it has bodies, but its journal is missing"),
+            DataFault::EmptyJournal => f.write_str("it has bodies, but its journal is empty"),
             DataFault::BrokenJournal => f.write_str(
                 "journal: records are missing at its end: it is damaged or cut there, or a copy that was made while a server wrote",
             ),

@@ -33,6 +33,9 @@ pub(crate) const JOURNAL: &str = "journal";
 /// one is called until it takes the place of one that is there.
 pub(crate) const FRESH: &str = "journal.new";
 
+/// A journal that was begun has so many bytes at least: its first line and its first gate have a sector each.
+const BEGUN: usize = 8_192;
+
 /// The folder of the bodies, within it.
 pub(crate) const BODIES: &str = "bodies";
 
@@ -166,14 +169,41 @@ pub(crate) fn open_shelf<S: Start, H: Holds>(
     }
 }
 
+/// Whether a shelf has bodies.
+fn has_bodies<S: Shelf>(rt: &HostRuntime, shelf: &mut S) -> Result<bool, DataFault> {
+    match shelf.numbers(rt.alloc()) {
+        Ok(numbers) => Ok(!numbers.is_empty()),
+        Err(fault) => Err(DataFault::Store(StoreFault::Body(fault))),
+    }
+}
+
 /// Refuses bodies that have no journal: nothing says what they are, and the next start would remove them as what no record
 /// names.
 fn refuse_bodies<S: Shelf>(rt: &HostRuntime, shelf: &mut S) -> Result<(), DataFault> {
-    match shelf.numbers(rt.alloc()) {
-        Ok(numbers) if numbers.is_empty() => Ok(()),
-        Ok(_) => Err(DataFault::NoJournal),
-        Err(fault) => Err(DataFault::Store(StoreFault::Body(fault))),
+    if has_bodies(rt, shelf)? {
+        return Err(DataFault::NoJournal);
     }
+    Ok(())
+}
+
+/// Refuses bodies whose journal has no gate: it was cut, since it takes its name behind that.
+pub(crate) fn refuse_cut<D: Disk, S: Shelf>(
+    rt: &HostRuntime,
+    file: &mut D,
+    shelf: &mut S,
+) -> Result<(), DataFault> {
+    // What can't be used isn't read either.
+    if !file.may_be_used() {
+        return Ok(());
+    }
+    let length = match file.len() {
+        Ok(length) => length,
+        Err(error) => return Err(DataFault::Journal(OpenFault::from(error))),
+    };
+    if length < BEGUN && has_bodies(rt, shelf)? {
+        return Err(DataFault::EmptyJournal);
+    }
+    Ok(())
 }
 
 /// Has a journal that ends as no crash leaves it go on from there, if the directory isn't refused for it. Says what tells
@@ -228,8 +258,9 @@ where
     if name == FRESH {
         refuse_bodies(rt, &mut open_shelf::<S, H>(rt, folder)?)?;
     }
-    let file = open_journal(rt, folder, name, start)?;
+    let mut file = open_journal(rt, folder, name, start)?;
     let mut shelf = open_shelf(rt, folder)?;
+    refuse_cut(rt, &mut file, &mut shelf)?;
     let mut journal = Journal::new(file, line_of(limits));
     let (missing, named) = match sweep(rt.alloc(), &mut journal, &mut shelf) {
         Ok(swept) => {
@@ -303,7 +334,8 @@ fn open_store<R: Threads, J: Start, S: Start, H: Holds, T: KeepingHost + Drop>(
 /// then. Which values stand for `J`, `S` and `H` says nothing: what holds of all of them holds of what is there.
 ///
 /// `Folder`, `Journal` and `Bodies` say what can't be opened or made. `NoBodies`: there is a journal, and no folder of
-/// bodies. `NoJournal`: there are bodies, and no journal. `Store`: the journal has another format, another version or
+/// bodies. `NoJournal`: there are bodies, and no journal. `EmptyJournal`: there are bodies, and the journal was cut before its first
+/// record. `Store`: the journal has another format, another version or
 /// other limits, it can't be read, there is no memory for a record, or one can't be run again and `damaged` has the
 /// directory refused for it. `BrokenJournal`: the journal ends as no crash leaves it,
 /// and `damaged` has the directory refused for it: nothing is written. Behind an error no record of the directory is
