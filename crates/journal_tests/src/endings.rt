@@ -16,9 +16,11 @@ const END: usize = 45_056;
 fn batch_of(alloc: Global, number: u8) -> Result<Batch, Error> {
     let mut batch = Batch::new(alloc);
     for part in 0..2u8 {
-        let record = [160 + 2 * number + part; 200];
-        let len = 100 + usize::from(part);
-        if batch.add(&record[..len]).is_err() {
+        let record = [160u8
+            .wrapping_add(2u8.wrapping_mul(number))
+            .wrapping_add(part); 101];
+        let (first, _) = record.split_at(if part == 0 { 100 } else { 101 });
+        if batch.add(first).is_err() {
             return Err(Error::NoMemory);
         }
     }
@@ -77,15 +79,15 @@ fn a_bit_between_records_hides_none(rt: HostRuntime) -> Result<(), Fail> {
             let at = if place == 24 {
                 gate
             } else {
-                gate + SECTOR + place
+                gate.saturating_add(SECTOR).saturating_add(place)
             };
-            for bit in 0..8 {
+            for mask in [1u8, 2, 4, 8, 16, 32, 64, 128] {
                 let was = bytes.get(at).copied().unwrap_or(0);
                 if let Some(there) = bytes.get_mut(at) {
-                    *there = was ^ (1u8 << bit);
+                    *there = was ^ mask;
                 }
                 let told = is_told(alloc, &bytes).unwrap_or(false);
-                assert!(rt; told, "byte {at}, bit {bit}");
+                assert!(rt; told, "byte {at}, bits {mask}");
                 if let Some(there) = bytes.get_mut(at) {
                     *there = was;
                 }
@@ -99,8 +101,8 @@ fn a_bit_between_records_hides_none(rt: HostRuntime) -> Result<(), Fail> {
 fn a_file_that_is_cut_is_broken(rt: HostRuntime) -> Result<(), Fail> {
     let alloc = rt.alloc();
     let bytes = bytes_of(alloc).unwrap_or(Vec::new(alloc));
-    for cut in 1..22 {
-        let len = 2 * SECTOR + cut * 2048;
+    for cut in 5..26 {
+        let len = cut * 2048;
         let front = bytes.get(..len).unwrap_or(&[]);
         let (before, behind, _) = recovered(alloc, front).unwrap_or((
             Ending::Sound,
@@ -118,7 +120,7 @@ fn a_file_that_is_cut_is_broken(rt: HostRuntime) -> Result<(), Fail> {
 fn zeros_before_a_batch_are_found(rt: HostRuntime) -> Result<(), Fail> {
     let alloc = rt.alloc();
     for (first, from) in GATES.iter().enumerate() {
-        for to in GATES.iter().skip(first + 1) {
+        for to in GATES.iter().skip(first.saturating_add(1)) {
             let mut bytes = bytes_of(alloc).unwrap_or(Vec::new(alloc));
             for byte in bytes.iter_mut().take(*to).skip(*from) {
                 *byte = 0;
