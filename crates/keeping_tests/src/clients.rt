@@ -196,23 +196,14 @@ pub fn name_of(alloc: Global, client: usize, upload: u64) -> Result<String, Fail
 fn text_of(alloc: Global, client: usize, upload: u64) -> Result<Vec<u8>, Fail> {
     let body = body_of(alloc, upload)?;
     let name = name_of(alloc, client, upload)?;
-    upload_text(alloc, &name, &BlobDigest::of_sha256(&body), &body)
-}
-
-/// The request that uploads a body to a repository, by this digest.
-pub fn upload_text(
-    alloc: Global,
-    name: &str,
-    digest: &BlobDigest,
-    body: &[u8],
-) -> Result<Vec<u8>, Fail> {
+    let digest = BlobDigest::of_sha256(&body);
     let length = body.len();
     let head = format!(in alloc;
         "POST /v2/{name}/blobs/uploads/?digest={digest} HTTP/1.1\r\nContent-Length: {length}\r\n\r\n"
     )?;
     let mut text = Vec::new(alloc);
     text.extend_from_slice(head.as_bytes())?;
-    text.extend_from_slice(body)?;
+    text.extend_from_slice(&body)?;
     Ok(text)
 }
 
@@ -224,19 +215,14 @@ fn worker<'a>(alloc: Global, client: usize, counts: &'a Counts) -> Result<TextWo
     for upload in 0..UPLOADS {
         texts.push(text_of(alloc, client, upload)?)?;
     }
-    Ok(worker_for(texts, client, counts))
-}
-
-/// A worker for a client with a connection for each of these.
-pub fn worker_for<'a>(texts: Vec<Vec<u8>>, client: usize, counts: &'a Counts) -> TextWorker<'a> {
-    Worker {
+    Ok(Worker {
         conns: texts_of(texts),
         secrets: ZeroSecrets,
         gate: Told {
             count: &counts.counts[client & 3],
         },
         observer: NoObserver,
-    }
+    })
 }
 
 /// A worker for each of the four.

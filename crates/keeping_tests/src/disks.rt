@@ -36,8 +36,8 @@ pub fn limits() -> Limits
     ensures { AreLawful result }
 {
     Limits {
-        max_blob: 8_388_608,
-        max_body: 8_388_608,
+        max_blob: 1_048_576,
+        max_body: 1_048_576,
         max_open: 4,
         max_idle: 3_600,
     }

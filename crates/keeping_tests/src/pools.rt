@@ -33,14 +33,14 @@ impl KeepingHost for Host {
 
 /// What a pool came to.
 #[derive(Drop)]
-pub struct Lived {
-    pub store: MemoryStore,
+struct Lived {
+    store: MemoryStore,
     /// Whether all was kept.
-    pub all: bool,
+    all: bool,
 }
 
-/// Serves clients over a new store whose journal fails after so many calls. `None` says that it wasn't opened.
-pub fn live<R: Threads + Wait + Sync>(
+/// Serves the four over a store whose journal fails after so many calls. `None` says that it wasn't opened.
+fn live<R: Threads + Wait + Sync>(
     rt: &R,
     alloc: Global,
     workers: Vec<TextWorker<'_>>,
