@@ -8,21 +8,43 @@ registry's certificate is signed by one in the file of --ca, or by one that the 
 to the address, which is 127.0.0.1:5090 if none is told. Exit status 1 if something is missing or doesn't answer.
 """
 import argparse
+import contextlib
 import http.client
 import os
 import re
+import socket
+import ssl
 import sys
+import threading
 import time
 
 import servers
 
 ADDRESS = "127.0.0.1:5090"
 FORM = re.compile(r"(http://)?([^/]+:[0-9]+)/?")
+# how long the registry may take for a connection, and then for each part of a reply, in seconds
+PATIENCE = 10
+# a wait is told behind so many
+TOLD = 3
 # what is wrong, by the status of GET /v2/
 WRONG = {
+    400: "it isn't a registry; or it speaks TLS: REGISTRY=HOST:PORT, without http://",
     401: "it takes no request without a login, or not this one (LOGIN=FILE, with USER:PASSWORD in the file)",
-    503: "nobody listens there, or its certificate isn't signed by one that is trusted (CA=FILE)",
+    503: "it can't serve now, or it is a reverse proxy with no server behind it",
 }
+NOBODY = "nobody listens there: start the registry, or name its port"
+DROPPED = f"no connection within {PATIENCE} s: its machine is off, or a firewall drops what is sent there"
+SILENT = f"it takes a connection, and says nothing for {PATIENCE} s: it hangs, or is no registry"
+NO_HTTP = "it sends no reply of HTTP: it is no registry, or it speaks {}"
+OTHER_SIGNER = "its certificate isn't signed by one that is trusted: name one that signs it (CA=FILE)"
+OTHER_NAME = "its certificate isn't for this name: name the registry as its certificate does"
+NO_TLS = "it speaks no TLS: REGISTRY=http://{}"
+SPEAKS_TLS = "it speaks TLS: REGISTRY={}, without http://"
+# how a record of TLS begins
+RECORD = re.compile(rb"[\x14-\x17]\x03")
+NO_TLS_REASONS = ("WRONG_VERSION_NUMBER", "HTTP_REQUEST", "UNKNOWN_PROTOCOL", "PACKET_LENGTH_TOO_LONG")
+# the error of a certificate that is for another name
+HOSTNAME_MISMATCH = 62
 
 
 def words_of(words):
@@ -34,8 +56,66 @@ def words_of(words):
     return parser.parse_args(words)
 
 
+@contextlib.contextmanager
+def told_wait(registry):
+    """Says what is waited for, if that takes more than a moment."""
+    timer = threading.Timer(TOLD, lambda: print(f"waits for {registry}", file=sys.stderr, flush=True))
+    timer.daemon = True
+    timer.start()
+    try:
+        yield
+    finally:
+        timer.cancel()
+
+
+def why_no_tls(error, registry):
+    """What the fault of a connection over TLS comes from."""
+    if isinstance(error, ssl.SSLCertVerificationError):
+        return OTHER_NAME if error.verify_code == HOSTNAME_MISMATCH else OTHER_SIGNER
+    if error.reason in NO_TLS_REASONS:
+        return NO_TLS.format(registry)
+    return f"TLS fails: {error.reason or error}"
+
+
+def beginning(line, registry, trusted):
+    """The first bytes of the registry's reply, over TLS if it is said who is trusted."""
+    host, _ = servers.place(registry)
+    with line if trusted is None else trusted.wrap_socket(line, server_hostname=host) as talk:
+        talk.sendall(f"GET /v2/ HTTP/1.1\r\nHost: {registry}\r\nConnection: close\r\n\r\n".encode())
+        return talk.recv(4096)
+
+
+def why_no_reply(registry, trusted):
+    """Why the registry sends no reply of HTTP, or None if it does. The adapter has the same words for all causes."""
+    host, port = servers.place(registry)
+    try:
+        line = socket.create_connection((host, port), timeout=PATIENCE)
+    except ConnectionRefusedError:
+        return NOBODY
+    except socket.gaierror:
+        return f"no address is known for the name {host}"
+    except TimeoutError:
+        return DROPPED
+    except OSError as error:
+        return error.strerror
+    with line:
+        try:
+            begin = beginning(line, registry, trusted)
+        except TimeoutError:
+            return SILENT
+        except (ssl.SSLEOFError, ConnectionError):
+            begin = b""
+        except ssl.SSLError as error:
+            return why_no_tls(error, registry)
+    if begin.startswith(b"HTTP/"):
+        return None
+    if trusted is None and RECORD.match(begin):
+        return SPEAKS_TLS.format(registry)
+    return NO_HTTP.format("TLS: leave out http://" if trusted is None else f"no TLS: REGISTRY=http://{registry}")
+
+
 def status_of(address):
-    """What the registry says to its base path."""
+    """What the registry says to its base path, through the adapter."""
     asked = http.client.HTTPConnection(*servers.place(address), timeout=servers.PATIENCE)
     asked.request("GET", "/v2/")
     return asked.getresponse().status
@@ -50,17 +130,33 @@ def text_of(variable, path):
         raise RuntimeError(f"{variable}={path} can't be read: {getattr(fault, 'strerror', 'it is no text')}") from fault
 
 
+def trusted_by(path):
+    """Whom a registry's certificate has to be signed by: those in the file that is told as CA, or of the system."""
+    if path:
+        text_of("CA", path)
+    try:
+        return ssl.create_default_context(cafile=path or None)
+    except ssl.SSLError as fault:
+        raise RuntimeError(f"CA={path} has no certificate in PEM's form") from fault
+
+
 def serve(told, folder):
     """Serves until it is interrupted or HAProxy ends."""
     scheme, registry = FORM.fullmatch(told.registry).groups()
-    certificates, login = "@system-ca", None
-    if told.ca:
-        text_of("CA", told.ca)
-        certificates = os.path.abspath(told.ca)
-    if told.login:
-        login = text_of("LOGIN", told.login).strip()
-    with servers.Adapter(folder, registry, None if scheme else certificates, login, told.at) as adapter:
-        status = status_of(told.at)
+    trusted, certificates = None, None
+    if not scheme:
+        trusted, certificates = trusted_by(told.ca), os.path.abspath(told.ca) if told.ca else "@system-ca"
+        # HAProxy finds no address in a certificate either
+        trusted.check_hostname = not servers.is_address(servers.place(registry)[0])
+    login = text_of("LOGIN", told.login).strip() if told.login else None
+    with told_wait(registry):
+        why = why_no_reply(registry, trusted)
+    if why:
+        print(f"can't push to {registry}: {why}", file=sys.stderr)
+        return 1
+    with servers.Adapter(folder, registry, certificates, login, told.at) as adapter:
+        with told_wait(registry):
+            status = status_of(told.at)
         if status != 200:
             why = WRONG.get(status, "it isn't a registry")
             print(f"{registry} answers {status}: {why}", file=sys.stderr)

@@ -5,15 +5,19 @@
 """
 import os
 import signal
+import socket
 import subprocess
 import sys
+import time
 
 from harness import TOP
+from harness.listeners import Scripted
 from harness.registry import LOGIN, PROXY, Client, Site, servers
 from harness.running import already, finished, push, pushed, written
 from harness.suite import OPTIONS, case, check, equal, main
-from harness.wire import PATIENCE
+from harness.wire import PATIENCE, address_of
 
+SCRIPT = os.path.join(TOP, "deploy", "adapter.py")
 CONTENT = b"a file of another machine\n" * 9000
 WORD = ":".join(LOGIN)
 
@@ -66,7 +70,7 @@ def the_newcomers_adapter(folder):
             file.write(text)
     with Site() as site:
         at = servers.free_address()
-        words = [sys.executable, os.path.join(TOP, "deploy", "adapter.py"), site.haproxy.tls, "--at", at]
+        words = [sys.executable, SCRIPT, site.haproxy.tls, "--at", at]
         trusted = ["--ca", site.certificates]
         for name, more, word in (
             ("no login", trusted, "LOGIN=FILE"),
@@ -82,6 +86,62 @@ def the_newcomers_adapter(folder):
             check("it pushes", ran.returncode == 0 and ran.stdout.startswith("pushed "), ran)
             running.send_signal(signal.SIGINT)
             check("it ends well", running.wait(timeout=PATIENCE) == 0)
+
+
+def told_of(registry, *more):
+    """What deploy/adapter.py says of a registry that it can't push to."""
+    ran = finished([sys.executable, SCRIPT, registry, "--at", servers.free_address(), *more])
+    check(f"{registry} isn't pushed to", ran.returncode == 1 and not ran.stdout, ran)
+    return ran.stderr
+
+
+@case(*PROXY)
+def the_adapter_names_the_cause(folder):
+    """Each cause has its own words, before HAProxy is started, which has the same for all."""
+    none = servers.free_address()
+    for registry in (none, f"http://{none}"):
+        equal(registry, told_of(registry).split(": ")[:2], [f"can't push to {none}", "nobody listens there"])
+    told = told_of("registry.invalid:5443")
+    check("a name that nobody has", "no address is known for the name registry.invalid" in told, told)
+    with Site() as site:
+        told = told_of(f"http://{site.haproxy.tls}")
+        check("TLS where none is expected", "it speaks TLS" in told, told)
+        told = told_of(site.haproxy.local)
+        check("no TLS where it is expected", f"REGISTRY=http://{site.haproxy.local}\n" in told, told)
+        port = servers.place(site.haproxy.tls)[1]
+        told = told_of(f"127.0.0.1:{port}", "--ca", SCRIPT)
+        equal("a certificate that is none", told, f"CA={SCRIPT} has no certificate in PEM's form\n")
+    with Scripted([b"SSH-2.0-none\r\n"]) as other:
+        told = told_of(f"http://{other.addr}")
+        check("no HTTP", "it sends no reply of HTTP" in told, told)
+
+
+@case(*PROXY)
+def a_wait_of_the_adapter_is_told():
+    """A registry that takes a connection and says nothing: within five seconds it is told what is waited for."""
+    with socket.create_server(("127.0.0.1", 0), backlog=50) as listener:
+        registry = address_of(listener)
+        words = [sys.executable, SCRIPT, f"http://{registry}", "--at", servers.free_address()]
+        begun = time.monotonic()
+        with subprocess.Popen(words, stderr=subprocess.PIPE, text=True) as waiting:
+            equal("what is told", waiting.stderr.readline(), f"waits for {registry}\n")
+            check("in time", time.monotonic() - begun < 5, time.monotonic() - begun)
+            rest = waiting.stderr.read()
+            equal("why it ends", rest.split(", ")[0], f"can't push to {registry}: it takes a connection")
+            equal("how it ends", waiting.wait(timeout=PATIENCE), 1)
+
+
+@case(*PROXY)
+def a_push_through_the_adapter_to_nobody(folder):
+    """It says what it waits for, and names no certificate where there is none."""
+    path = written(folder, CONTENT)
+    with servers.Adapter(folder, servers.free_address()) as one:
+        ran = finished([OPTIONS.program, "push", one.address, "lib/none", path])
+        equal("its line", (ran.stdout, ran.returncode), ("refused: out of tries\n", 1))
+        wait, *rest = ran.stderr.splitlines()
+        equal("what it waits for", wait, f"blobd: waits for {one.address}, which answers 503")
+        why = "the server answers 503: the registry behind the adapter takes no connection (tried 7 times)"
+        equal("why it ended", rest, [f"blobd: can't push to {one.address}: {why}"])
 
 
 if __name__ == "__main__":
