@@ -104,8 +104,7 @@ def serve(binary, folder, is_kept):
         print(greeting(binary, folder, password, running[-1], is_kept), flush=True)
         while not (ended := [service for service in running if service.ended()]):
             time.sleep(0.5)
-        with open(ended[0].log, encoding="utf-8", errors="replace") as log:
-            print(f"{ended[0].name} ended:\n{log.read()[-2000:]}", file=sys.stderr)
+        print(f"{ended[0].name} ended: {ended[0].how_it_is()}", file=sys.stderr)
     return 1
 
 
@@ -118,6 +117,10 @@ def main(words):
         return 1
     if words[0] == "--packages":
         return 0
+    if not os.access(words[0], os.X_OK) or os.path.isdir(words[0]):
+        wanted = "PROGRAM=FILE names a blobd that is there; without it one is built"
+        print(f"{words[0]} is no program: {wanted}", file=sys.stderr)
+        return 1
     return servers.until_interrupted("registry", lambda folder: serve(words[0], folder, bool(kept)), kept)
 
 

@@ -24,6 +24,8 @@ PATH = os.environ.get("PATH", "") + os.pathsep + "/usr/sbin" + os.pathsep + "/sb
 # one heap.
 MALLOC = {"GLIBC_TUNABLES": "glibc.malloc.hugetlb=1:glibc.malloc.mmap_threshold=1048576:glibc.malloc.arena_max=1"}
 PATIENCE = 60
+# how many lines of a log are shown
+LINES = 10
 DIES_WITH_PARENT = 1
 
 # How to see that a package of Debian's is there that isn't named as its program is.
@@ -85,6 +87,8 @@ class Service:
         self.name, self.folder, self.words, self.addresses = name, folder, words, addresses
         self.settings = os.environ | (settings or {})
         self.log = os.path.join(folder, f"{name}.log")
+        # where in it begins what it printed since it was started
+        self.begun = 0
         self.process = None
 
     def __enter__(self):
@@ -96,6 +100,7 @@ class Service:
 
     def start(self):
         with open(self.log, "ab") as log:
+            self.begun = log.tell()
             # In a session of its own, an interrupt at the terminal doesn't reach it: it is ended in its turn.
             self.process = subprocess.Popen(
                 self.words, cwd=self.folder, env=self.settings, stdin=subprocess.DEVNULL, stdout=log, stderr=log,
@@ -109,11 +114,25 @@ class Service:
             raise
 
     def wait_for(self, address):
-        if wait_for(address, lambda: self.process.poll() is None, self.seconds):
-            return
+        if not wait_for(address, lambda: self.process.poll() is None, self.seconds):
+            raise RuntimeError(f"{self.name} doesn't listen on {address}: {self.how_it_is()}")
+
+    def how_it_is(self):
+        """How it ended, if it did, and the last lines that it printed since it was started."""
+        code = self.process.poll()
+        if code is None:
+            how = "it runs"
+        elif code < 0:
+            name = signal.Signals(-code).name
+            how = f"it was killed by {name}" + (", as the system does when memory is full" if name == "SIGKILL" else "")
+        else:
+            how = f"its exit status is {code}"
         with open(self.log, encoding="utf-8", errors="replace") as log:
-            told = log.read()[-2000:]
-        raise RuntimeError(f"{self.name} doesn't listen on {address}:\n{told}")
+            log.seek(self.begun)
+            lines = log.read().splitlines()[-LINES:]
+        if not lines:
+            return f"{how}, and it printed nothing"
+        return "\n  ".join([f"{how}, and it printed at last:", *lines])
 
     def end(self, by=signal.SIGTERM):
         """Ends it, by force if it doesn't go within five seconds."""

@@ -131,6 +131,32 @@ def the_newcomers_registry():
             check(f"nobody listens on {address}", probe.connect_ex(servers.place(address)) != 0)
 
 
+@case(*PROXY)
+def a_registry_without_a_program(folder):
+    """`make registry PROGRAM=..` says what is wrong with what it is told."""
+    for program in ("/nowhere/blobd", folder, __file__):
+        ran = finished(["make", "--no-print-directory", "registry", f"PROGRAM={program}"], cwd=TOP)
+        check(f"PROGRAM={program}", ran.returncode == 2 and ran.stderr.startswith(f"{program} is no program: "), ran)
+
+
+@case()
+def a_service_that_cannot_start(folder):
+    """It is told how it ended, and what it printed since it was started."""
+    path = os.path.join(folder, "data")
+    written(path, "a file in place of a folder")
+    service = servers.blobd(OPTIONS.program, folder, servers.free_address(), kept=path)
+    for _ in range(2):
+        try:
+            service.start()
+            check("it starts", False)
+        except RuntimeError as fault:
+            first, *printed = str(fault).splitlines()
+            check("how it ended", first.endswith(": its exit status is 3, and it printed at last:"), first)
+            cause = f"  blobd: can't use {path}: not a folder"
+            equal("what it printed", [line for line in printed if line.startswith(cause)], printed[:1])
+            check("it printed the cause", len(printed) == 2, printed)
+
+
 def family(number):
     """A process, and all that it has started."""
     with open(f"/proc/{number}/task/{number}/children", encoding="ascii") as file:
@@ -181,8 +207,9 @@ def a_registry_that_keeps(folder):
             is_killed = end == signal.SIGKILL
             os.kill(program_of(registry.pid, "blobd") if is_killed else registry.pid, end)
             rest = registry.stdout.read().strip()
-            ended = registry.wait(timeout=PATIENCE), rest.split(":")[0]
-            equal("it says how it ended", ended, (1, "blobd ended") if is_killed else (0, "ended"))
+            ended = registry.wait(timeout=PATIENCE), rest.split(",")[0]
+            wanted = (1, "blobd ended: it was killed by SIGKILL") if is_killed else (0, "ended")
+            equal("it says how it ended", ended, wanted)
 
 
 # Before the lines that set all up in docs/OPERATIONS.md.
