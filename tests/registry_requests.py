@@ -202,7 +202,7 @@ def a_shards_own_refusals_are_told():
         (bare.format(503).encode(), 503, "UNAVAILABLE", "is full"),
         (bare.format(413).encode(), 413, "SIZE_INVALID", "2 GiB"),
         (bare.format(429).encode(), 429, "TOOMANYREQUESTS", "open uploads"),
-        (b"", 503, "UNAVAILABLE", "ended during the request"),
+        (b"", 503, "UNAVAILABLE", "ended during the request, or it is full"),
         (None, 504, "UNAVAILABLE", "too long"),
     ):
         with a_shard_that_says(said) as client:
