@@ -236,18 +236,29 @@ LOSES = {
 }
 # What is said of a reply on standard error.
 HTTPS = "is this https? A push speaks plain HTTP"
+ADAPTER = "`make adapter REGISTRY=http://host:port`"
 LOGIN = (
-    "it wants a login, and a push has none: push to the reverse proxy's local address, or through deploy/adapter.cfg"
+    "it wants a login, and a push has none: push to the reverse proxy's local address, "
+    "or through `make adapter REGISTRY=http://host:port LOGIN=FILE`"
 )
-OTHER = "it is another kind of server, as by the form of its Location: push through deploy/adapter.cfg"
+OTHER = f"it is another kind of server, as by the form of its Location: push through {ADAPTER}"
+ELSEWHERE = (
+    "it sends elsewhere, and a push doesn't follow: push to the server of its Location, "
+    "or, if that is https, through `make adapter REGISTRY=host:port`"
+)
 NO_REGISTRY = "it takes no uploads into this repository: is it a registry?"
-LOST = "it lost the upload: push again, or through deploy/adapter.cfg if it is docker-registry"
+LOST = f"it lost the upload: push again, or through {ADAPTER} if it is docker-registry"
 NO_HTTP = "the reply isn't HTTP: is this https? (tried 7 times)"
 TLS = f"the reply is TLS: {HTTPS} (tried 7 times)"
 CLOSED = "the server closed the connection before it had replied: is this https? (tried 7 times)"
 NO_FORM = "no reply of a form that is read (tried 7 times)"
+CUT = (
+    "the server ended the connection before it had replied: it was ended itself, or it is full: "
+    "see what it says on its standard error (tried 6 times)"
+)
 UNAVAILABLE = (
-    "the server answers 503: it has no room, or it is a reverse proxy with no server behind it (tried 7 times)"
+    "the server answers 503: it has no room (raise its BLOBD_MEMORY, or make room on its disk), "
+    "or it is a reverse proxy with no server behind it (tried 7 times)"
 )
 
 
@@ -265,10 +276,13 @@ STRANGE = [
     ("a code of two lines", reply_of("403 Forbidden", b'{"errors":[{"code":"A\\nB"}]}'), "403 -", None),
     ("an empty code", reply_of("403 Forbidden", b'{"errors":[{"code":""}]}'), "403 -", None),
     ("a login", reply_of("401 Unauthorized"), "401 -", LOGIN),
+    ("a redirect", reply_of("303 See Other", fields=b"Location: https://h/\r\n"), "303 -", ELSEWHERE),
+    ("the last redirect", reply_of("399 None"), "399 -", ELSEWHERE),
     ("a request that TLS was wanted for", reply_of("400 Bad Request"), "400 -", HTTPS),
     ("a refused request", reply_of("400 Bad Request", CODED), "400 DENIED", None),
     ("a server that is no registry", reply_of("404 Not Found"), "404 -", NO_REGISTRY),
     ("a server that loses the upload", LOSES, "404 BLOB_UPLOAD_UNKNOWN", LOST),
+    ("a server that ends within the upload", LOSES | {"PATCH": b"", "GET": b""}, "out of tries", CUT),
     ("a 202 without a place", reply_of("202 Accepted"), "bad server", OTHER),
     ("a place of another registry", reply_of("202 Accepted", fields=LOCATION_ELSEWHERE), "bad server", OTHER),
     ("no HTTP", b"SSH-2.0-none\r\n", "out of tries", NO_HTTP),
@@ -298,6 +312,23 @@ def strange_servers(folder):
         for (name, _, line, why), server, ended in zip(STRANGE, servers, pushes):
             wanted = given_up(server.addr, why, line) if why else (f"refused: {line}\n", 1, "")
             equal(name, ended.result(), wanted)
+
+
+@case()
+def a_server_that_cannot_serve_is_told(folder):
+    """One that answers 503 is told once it was waited for for five seconds, and in one line. One that answers so for a
+    moment isn't."""
+    abc = written(folder, b"abc")
+    busy, later = reply_of("503 Service Unavailable"), reply_of("403 Forbidden")
+    waits = "blobd: waits for {}, which answers 503\n"
+    for name, scripts, delay, line, wanted in (
+        ("never", [[busy]], 0.5, "out of tries", [waits, given_up("{}", UNAVAILABLE)[2]]),
+        ("in a moment", [[busy], [busy], [later]], 0, "403 -", []),
+    ):
+        with Scripted(*scripts, delay=delay) as server:
+            ended = run("push", server.addr, "lib/a", abc, "2")
+            told = "".join(wanted).format(server.addr, server.addr)
+            equal(f"a server that serves {name}", ended, (f"refused: {line}\n", 1, told))
 
 
 @case()

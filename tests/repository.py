@@ -64,6 +64,7 @@ NO_CLAUSE = {
     "blobd_data": {
         "tell_losses",
         "tell_missing",
+        "tell_end",
         "Progress::begin",
         "Progress::end",
         "read_status",
@@ -79,8 +80,8 @@ NO_CLAUSE = {
         "seconds_now",
         "compact_if_worth",
     },
-    "blobd_push": {"Message::is_empty", "Notes::note_read"},
-    "blobd_serve": {"Holdings::of", "Holdings::look", "time_now"},
+    "blobd_push": {"Message::is_empty", "Notes::note_read", "Notes::tells_wait"},
+    "blobd_serve": {"Holdings::of", "Holdings::look", "time_now", "Fullness::new", "Fullness::share", "Fullness::tells"},
     "blobd": {"print_status", "run_compact", "usual_memory"},
 }
 

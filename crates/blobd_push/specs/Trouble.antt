@@ -1,17 +1,17 @@
 -- What goes wrong with a push, and the words for it.
-use Rattle.std.specs.Prelude.{ℕ, ◌+◌, ◌-◌, ◌^◌, min, ◌==◌, ◌&&◌, ◌||◌, nat_eq, nat_le, Bool, false, List}
+use Rattle.std.specs.Prelude.{ℕ, ◌+◌, ◌-◌, ◌^◌, min, ◌==◌, ◌&&◌, ◌||◌, nat_eq, nat_le, Bool, false, true, List}
 use Rattle.std.specs.Prelude.{◌∷◌, codes, Option, Some, None, option_map, is_some, if◌then◌else◌}
 use Rattle.std.specs.List.{starts_with}
 use Rattle.upload_client.specs.declared.heard.Heard.{Heard}
 use Rattle.upload_push.specs.declared.pusher.Why.{Why}
 use Rattle.upload_push.specs.declared.pusher.Why.TheVariants.{Refused, BadServer, OutOfTries}
 use Rattle.blobd_push.specs.declared.trouble.Advice.{Advice}
-use Rattle.blobd_push.specs.declared.trouble.Advice.TheVariants.{IsItHttps, NoLogin, PushAgain, IsItARegistry, Adapter}
+use Rattle.blobd_push.specs.declared.trouble.Advice.TheVariants.{IsItHttps, NoLogin, PushAgain, IsItARegistry, Adapter, GoThere}
 use Rattle.blobd_push.specs.declared.trouble.Course.{Course}
 use Rattle.blobd_push.specs.declared.trouble.Reason.{Reason}
 use Rattle.blobd_push.specs.declared.trouble.Reason.TheVariants.{Advised, Lost}
 use Rattle.blobd_push.specs.declared.trouble.Trouble.{Trouble}
-use Rattle.blobd_push.specs.declared.trouble.Trouble.TheVariants.{NoReply, NoConnection, System, Silence, Closed, Tls}
+use Rattle.blobd_push.specs.declared.trouble.Trouble.TheVariants.{NoReply, NoConnection, System, Silence, Closed, Cut, Tls}
 use Rattle.blobd_push.specs.declared.trouble.Trouble.TheVariants.{NotHttp, Unavailable, Misplaced}
 
 -- a record of TLS begins with its kind, 20 to 23, and a version whose first byte is 3 (RFC 8446, section 5.1)
@@ -66,9 +66,14 @@ words_of (System number) = codes "no reply of a form that is read"
 words_of NoConnection = codes "no connection within 10 s"
 words_of Silence = codes "the server was silent for 30 s"
 words_of Closed = codes "the server closed the connection before it had replied: is this https?"
+words_of Cut =
+    codes
+    "the server ended the connection before it had replied: it was ended itself, or it is full: see what it says on its standard error"
 words_of Tls = codes "the reply is TLS: is this https? A push speaks plain HTTP"
 words_of NotHttp = codes "the reply isn't HTTP: is this https?"
-words_of Unavailable = codes "the server answers 503: it has no room, or it is a reverse proxy with no server behind it"
+words_of Unavailable =
+    codes
+    "the server answers 503: it has no room (raise its BLOBD_MEMORY, or make room on its disk), or it is a reverse proxy with no server behind it"
 words_of Misplaced = codes "the server answers 416: does another client write into the upload?"
 
 -- what is wrong with a reply of this status, if it takes a try
@@ -79,7 +84,8 @@ status_trouble status = if status == 503 then Some Unavailable else if status ==
 -- opened before.
 abbrev pub advice_on : ℕ → Bool → Bool → Option Advice
 advice_on status coded opened =
-    if status == 400 then (if coded then None else Some IsItHttps)
+    if nat_le 300 status && nat_le status 399 then Some GoThere
+    else if status == 400 then (if coded then None else Some IsItHttps)
     else if status == 401 then Some NoLogin
     else if status == 404 then (if opened then Some PushAgain else Some IsItARegistry)
     else None
@@ -89,15 +95,28 @@ abbrev pub words_of_advice : Advice → List ℕ
 words_of_advice IsItHttps = codes "is this https? A push speaks plain HTTP"
 words_of_advice NoLogin =
     codes
-    "it wants a login, and a push has none: push to the reverse proxy's local address, or through deploy/adapter.cfg"
+    "it wants a login, and a push has none: push to the reverse proxy's local address, or through `make adapter REGISTRY=http://host:port LOGIN=FILE`"
 words_of_advice PushAgain =
-    codes "it lost the upload: push again, or through deploy/adapter.cfg if it is docker-registry"
+    codes
+    "it lost the upload: push again, or through `make adapter REGISTRY=http://host:port` if it is docker-registry"
 words_of_advice IsItARegistry = codes "it takes no uploads into this repository: is it a registry?"
 words_of_advice Adapter =
-    codes "it is another kind of server, as by the form of its Location: push through deploy/adapter.cfg"
+    codes
+    "it is another kind of server, as by the form of its Location: push through `make adapter REGISTRY=http://host:port`"
+words_of_advice GoThere =
+    codes
+    "it sends elsewhere, and a push doesn't follow: push to the server of its Location, or, if that is https, through `make adapter REGISTRY=host:port`"
+
+-- what kept the last request of a push from being heard: a server that has opened an upload speaks HTTP, so one that
+-- closes then, or takes no more (EPIPE, ECONNRESET), was ended or is full
+abbrev pub last_trouble : Trouble → Bool → Trouble
+last_trouble trouble false = trouble
+last_trouble Closed true = Cut
+last_trouble (System number) true = if number == 32 || number == 104 then Cut else System number
+last_trouble trouble true = trouble
 
 -- what there is to say of a push that was given up, beside its line
 abbrev pub reason_of : Why → Course → Trouble → Option Reason
 reason_of (Refused status code) course trouble = option_map Advised (advice_on status (is_some code) course.opened)
 reason_of BadServer course trouble = Some (Advised Adapter)
-reason_of OutOfTries course trouble = Some (Lost trouble course.losses)
+reason_of OutOfTries course trouble = Some (Lost (last_trouble trouble course.opened) course.losses)

@@ -1,5 +1,5 @@
 //! A bar: one line of a terminal, drawn again and again, that says how far a push has come.
-ghost use Rattle.std.specs.Prelude.{◌≡◌, false, None};
+ghost use Rattle.std.specs.Prelude.{◌≡◌, codes, false, None};
 
 use blobd_shared::ByteCount;
 use std::fmt;
@@ -119,6 +119,13 @@ impl<'r, R: Clock + Eprint> Bar<'r, R> {
             millis,
         };
         let _ = eprint!(self.rt; "\r{progress}\x1b[K");
+    }
+
+    /// What another line begins with, in the place of the bar.
+    pub(crate) fn line_begin(&self) -> &'static str
+        ensures { self.now.seen ≡ false → result.now ≡ codes "" }
+    {
+        if self.seen { "\r\x1b[K" } else { "" }
     }
 
     /// Clears the line, so that another may stand there. Nothing is drawn before something else is begun.

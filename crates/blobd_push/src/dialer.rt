@@ -24,7 +24,7 @@ use std::alloc::{AllocError, Global};
 use std::io::Eprint;
 use std::rt::Clock;
 use std::thread;
-use std::time::Duration;
+use std::time::{Duration, Instant};
 use upload_client::{Heard, LentChunk, Transport, WireTransport};
 use upload_names::{BlobDigest, RepoName};
 use upload_service::{Ask, Extent};
@@ -274,9 +274,20 @@ impl<'r, D: Dials + Drop, R: Clock + Eprint> Dialer<'r, D, R> {
     /// Waits as long as what was heard last wants. Nothing has gone wrong with the next ask yet.
     fn begin(&self) {
         if self.pause > 0 {
+            self.tell_wait();
             thread::sleep(self.rt, Duration::from_millis(self.pause));
+        } else {
+            self.notes.begin(Instant::now(self.rt).ok());
         }
         self.notes.clear();
+    }
+
+    /// Tells of a server that can't serve for a while. Nothing is promised of standard error.
+    fn tell_wait(&self) {
+        if self.notes.tells_wait(self.rt) {
+            let (begin, host) = (self.bar.line_begin(), self.host);
+            let _ = eprintln!(self.rt; "{begin}blobd: waits for {host}, which answers 503");
+        }
     }
 
     /// What a further HEAD of a blob of so many bytes shows, over a connection of its own. An error means that there

@@ -1,10 +1,16 @@
 //! What is noted of a request of a push, for standard error.
+use crate::bar::millis_of;
 use crate::trouble::{Trouble, error_trouble, first_trouble, is_unavailable, trouble_in};
 use std::cell::Cell;
+use std::rt::Clock;
+use std::time::Instant;
 use std::{fmt, io};
 
 /// How many bytes of a server's own words are kept.
 const LONGEST: usize = 240;
+
+/// Behind how long a server that can't serve is told, in milliseconds.
+const TOLD_MILLIS: u64 = 5_000;
 
 /// What a server says of why it can't serve, as far as it is kept.
 #[derive(Clone, Copy)]
@@ -58,9 +64,11 @@ impl fmt::Display for Message {
     }
 }
 
-/// What is noted of a request.
+/// What is noted of a request, and of those before it that weren't heard.
 #[derive(Drop)]
 pub(crate) struct Notes {
+    /// When the first of them began; none if the clock can't be read, or once it was told that the server is waited for.
+    begun: Cell<Option<Instant>>,
     /// What keeps it from being heard.
     trouble: Cell<Trouble>,
     /// What the server says of that.
@@ -71,6 +79,7 @@ impl Notes {
     /// Nothing has gone wrong.
     pub(crate) fn new() -> Notes {
         Notes {
+            begun: Cell::new(None),
             trouble: Cell::new(Trouble::NoReply),
             message: Cell::new(Message::none()),
         }
@@ -80,6 +89,25 @@ impl Notes {
     pub(crate) fn clear(&self) {
         self.trouble.set(Trouble::NoReply);
         self.message.set(Message::none());
+    }
+
+    /// A request begins at this moment behind one that was heard.
+    pub(crate) fn begin(&self, begun: Option<Instant>) {
+        self.begun.set(begun);
+    }
+
+    /// Whether it is to be told now that the server is waited for: it can't serve, and hasn't for a while. That is told
+    /// once.
+    pub(crate) fn tells_wait<R: Clock>(&self, rt: &R) -> bool {
+        let Some(begun) = self.begun.get() else {
+            return false;
+        };
+        let tells = self.trouble() == Trouble::Unavailable
+            && begun.elapsed(rt).map_or(0, millis_of) >= TOLD_MILLIS;
+        if tells {
+            self.begun.set(None);
+        }
+        tells
     }
 
     pub(crate) fn trouble(&self) -> Trouble {

@@ -1,7 +1,7 @@
 //! What goes wrong with a push, and the words for it on standard error.
 ghost use Rattle.std.specs.Prelude.{◌≡◌};
 ghost use Rattle.blobd_push.specs.Trouble.{advice_on, course_after, error_trouble, first_trouble, is_http};
-ghost use Rattle.blobd_push.specs.Trouble.{is_tls, is_unavailable, reason_of};
+ghost use Rattle.blobd_push.specs.Trouble.{is_tls, is_unavailable, last_trouble, reason_of};
 ghost use Rattle.blobd_push.specs.Trouble.{status_trouble, trouble_in, words_of, words_of_advice};
 
 use blobd_shared::Quantity;
@@ -22,6 +22,8 @@ pub(crate) enum Trouble {
     Silence,
     /// The server closed the connection before the end of a reply.
     Closed,
+    /// It did so, or took no more of a request, once it had opened an upload: it speaks HTTP.
+    Cut,
     /// What came begins as a record of TLS.
     Tls,
     /// What came doesn't begin as HTTP.
@@ -43,6 +45,12 @@ const ACCEPTED: u16 = 202;
 
 /// What Linux calls the error of a read or a write that no byte moved in time, on x86-64 and aarch64.
 const EAGAIN: u32 = 11;
+
+/// That of a write to a peer that has closed.
+const EPIPE: u32 = 32;
+
+/// That of a read or a write of a connection that its peer has reset.
+const ECONNRESET: u32 = 104;
 
 /// Whether bytes begin as a record of TLS: its kind (RFC 8446, section 5.1), and the first byte of its version.
 fn is_tls(bytes: &[u8]) -> bool
@@ -146,10 +154,16 @@ fn words_of(trouble: Trouble) -> &'static str
         Trouble::NoConnection => "no connection within 10 s",
         Trouble::Silence => "the server was silent for 30 s",
         Trouble::Closed => "the server closed the connection before it had replied: is this https?",
+        Trouble::Cut => {
+            "the server ended the connection before it had replied: it was ended itself, or it is full: see what it says \
+             on its standard error"
+        }
         Trouble::Tls => "the reply is TLS: is this https? A push speaks plain HTTP",
         Trouble::NotHttp => "the reply isn't HTTP: is this https?",
-        Trouble::Unavailable =>
-            "the server answers 503: it has no room, or it is a reverse proxy with no server behind it",
+        Trouble::Unavailable => {
+            "the server answers 503: it has no room (raise its BLOBD_MEMORY, or make room on its disk), or it is a \
+             reverse proxy with no server behind it"
+        }
         Trouble::Misplaced => "the server answers 416: does another client write into the upload?",
     }
 }
@@ -167,6 +181,8 @@ pub(crate) enum Advice {
     IsItARegistry,
     /// To push through what knows the other kind of server.
     Adapter,
+    /// To push to where the reply sends.
+    GoThere,
 }
 
 /// What to do about a reply of this status, if anything. It matters whether the reply had an error code, and whether an
@@ -175,6 +191,7 @@ fn advice_on(status: u16, coded: bool, opened: bool) -> Option<Advice>
     ensures { result ≡ advice_on status coded opened }
 {
     match status {
+        300..=399 => Some(Advice::GoThere),
         400 if !coded => Some(Advice::IsItHttps),
         401 => Some(Advice::NoLogin),
         404 if opened => Some(Advice::PushAgain),
@@ -190,14 +207,22 @@ fn words_of_advice(advice: Advice) -> &'static str
     match advice {
         Advice::IsItHttps => "is this https? A push speaks plain HTTP",
         Advice::NoLogin => {
-            "it wants a login, and a push has none: push to the reverse proxy's local address, or through deploy/adapte\
-             r.cfg"
+            "it wants a login, and a push has none: push to the reverse proxy's local address, or through `make adapter \
+             REGISTRY=http://host:port LOGIN=FILE`"
         }
-        Advice::PushAgain =>
-            "it lost the upload: push again, or through deploy/adapter.cfg if it is docker-registry",
+        Advice::PushAgain => {
+            "it lost the upload: push again, or through `make adapter REGISTRY=http://host:port` if it is \
+             docker-registry"
+        }
         Advice::IsItARegistry => "it takes no uploads into this repository: is it a registry?",
-        Advice::Adapter =>
-            "it is another kind of server, as by the form of its Location: push through deploy/adapter.cfg",
+        Advice::Adapter => {
+            "it is another kind of server, as by the form of its Location: push through `make adapter \
+             REGISTRY=http://host:port`"
+        }
+        Advice::GoThere => {
+            "it sends elsewhere, and a push doesn't follow: push to the server of its Location, or, if that is https, \
+             through `make adapter REGISTRY=host:port`"
+        }
     }
 }
 
@@ -210,12 +235,23 @@ pub(crate) enum Reason {
     Lost(Trouble, u64),
 }
 
+/// What kept the last request of a push from being heard, by its trouble: a server that has opened an upload speaks HTTP.
+fn last_trouble(trouble: Trouble, opened: bool) -> Trouble
+    ensures { result ≡ last_trouble trouble opened }
+{
+    match trouble {
+        Trouble::Closed | Trouble::System(EPIPE) | Trouble::System(ECONNRESET) if opened =>
+            Trouble::Cut,
+        _ => trouble,
+    }
+}
+
 /// What there is to say of a push that was given up, beside its line. The trouble is that of its last request.
 pub(crate) fn reason_of(why: &Why, course: Course, trouble: Trouble) -> Option<Reason>
     ensures { result ≡ reason_of why.now course trouble }
 {
     match why {
-        Why::OutOfTries => Some(Reason::Lost(trouble, course.losses)),
+        Why::OutOfTries => Some(Reason::Lost(last_trouble(trouble, course.opened), course.losses)),
         Why::BadServer => Some(Reason::Advised(Advice::Adapter)),
         Why::Refused(status, code) => {
             advice_on(*status, code.is_some(), course.opened).map(Reason::Advised)
