@@ -5,6 +5,7 @@
 """
 import contextlib
 import ctypes
+import json
 import os
 import random
 import re
@@ -525,12 +526,33 @@ def bodies_of(path):
 
 MISSING = "damage in {0}: journal: records are missing at its end: "
 WENT_ON = "{0}: an earlier start went on without records that were missing; no file is removed before `blobd compact {0}`\n"
+# what `blobd status` says of the end of a journal that is looked at
+AT_THE_END = (
+    "blobd: " + MISSING + "it is damaged or cut there, or a copy that was made while a server wrote; "
+    "a start goes on without them\n"
+)
+
+
+def is_looked_at(name, path, told, word):
+    """Checks what is told of missing records by those commands that only look at a directory, and that they change
+    nothing."""
+    before, wanted, keep = tree(path), told.format(path), f"{path}-keep"
+    with open(keep, "w", encoding="ascii") as file:
+        file.write(f"{NAME} {sha256(b'')}\n")
+    for words in (["status"], ["status", "--json"], ["compact", "--dry-run"]):
+        line, status, more_told = run(*words, path)
+        equal(f"{name}: what {words} tells", (status, more_told), (0, wanted))
+        if words[-1] == "--json":
+            equal(f"{name}: as JSON", json.loads(line).get("missing"), word)
+    equal(f"{name}: compact --dry-run with a list", run("compact", "--dry-run", path, keep)[1:], (0, wanted))
+    check(f"{name}: nothing is changed", tree(path) == before)
 
 
 def goes_on_without(name, path, contents):
     """Checks that a directory whose journal ends as no crash leaves it is refused if it is to be strict, and else served by
     what stands before; that no start removes a file before it is compacted; and that what is pushed then is there."""
     before, more = bodies_of(path), b"more"
+    is_looked_at(name, path, AT_THE_END, "at the end")
     is_refused(f"{name}: a strict start", path, "journal: records are missing at its end")
     told, status, more_told = run("compact", path)
     check(f"{name}: it isn't compacted", (told, status) == REFUSED and "records are missing" in more_told, more_told)
@@ -547,8 +569,10 @@ def goes_on_without(name, path, contents):
             kept = [pull(server, NAME, sha256(content)) for content in [*contents[:there], more]]
             equal(f"{name}: what is there", kept, [*contents[:there], more])
         check(f"{name}: no file is removed", before.items() <= bodies_of(path).items())
+    is_looked_at(f"{name}: behind a start", path, "blobd: " + WENT_ON, "before")
     told, status, more_told = run("compact", path)
     equal(f"{name}: a compaction", (status, more_told), (0, ""))
+    is_looked_at(f"{name}: behind a compaction", path, "", None)
     with serving(path) as server:
         told = server.told(5)
         check(f"{name}: nothing is said any more", HOLDS.fullmatch(told), told)

@@ -3,14 +3,14 @@
 use crate::words::Keep;
 use blobd_data::{
     AnyBodies, CompactingFault, ListFault, Waste, compact_data, foresee_data, read_list,
-    seconds_now, weigh_data,
+    read_status, seconds_now, tell_end, weigh_data,
 };
 use blobd_serve::limits;
 use blobd_shared::{DONE, FAULT, Quantity, REFUSED, print_line};
 use journal_file::Wary;
 use std::io::{self, Write};
 use std::thread::Threads;
-use upload_compact::{Forecast, Leaving};
+use upload_compact::{Forecast, Leaving, Weight};
 
 /// Says why a data directory isn't compacted, and gives the exit status.
 fn print_fault(rt: &HostRuntime, path: &str, fault: &CompactingFault) -> u8 {
@@ -24,10 +24,24 @@ fn print_no_list(rt: &HostRuntime, list: &str, fault: &ListFault) -> u8 {
     print_line(&mut io::writer(rt), "refused: keep", REFUSED)
 }
 
+/// Tells on standard error if records of a directory are missing, whose journal weighs so much. A server may add to it
+/// meanwhile, so it is looked at again.
+fn tell_its_end(rt: &HostRuntime, path: &str, weight: &Weight) {
+    if weight.looked.is_sure() {
+        return;
+    }
+    if let Ok(status) = read_status(rt, path, limits(), Wary) {
+        tell_end(rt, path, status.missing);
+    }
+}
+
 /// Says how much would go, and gives the exit status.
 fn print_waste(rt: &HostRuntime, path: &str) -> u8 {
     match weigh_data(rt, path, limits(), Wary) {
-        Ok(waste) => print_line(&mut io::writer(rt), format_args!("would go: {waste}"), DONE),
+        Ok(waste) => {
+            tell_its_end(rt, path, &waste.0);
+            print_line(&mut io::writer(rt), format_args!("would go: {waste}"), DONE)
+        }
         Err(fault) => print_fault(rt, path, &fault),
     }
 }
@@ -38,6 +52,7 @@ fn print_forecast(rt: &HostRuntime, path: &str, leaving: &Leaving) -> u8 {
         Ok(forecast) => forecast,
         Err(fault) => return print_fault(rt, path, &fault),
     };
+    tell_its_end(rt, path, &weight);
     let mut out = io::writer(rt);
     for (name, digest) in gone.iter() {
         if writeln!(out, "{name} {digest}").is_err() {

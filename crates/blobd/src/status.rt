@@ -1,14 +1,23 @@
 //! `blobd status`: what a data directory holds.
-use blobd_data::{Status, read_status};
+use blobd_data::{Missing, Status, read_status, tell_end};
 use blobd_serve::limits;
 use blobd_shared::{DONE, FAULT, Quantity, WholeHolding, print_line};
 use journal_file::Wary;
 use std::{fmt, io};
 use upload_service::Counts;
 
-/// The numbers as JSON.
+/// The numbers as JSON, and what tells of missing records, if something does.
 #[derive(Clone, Copy)]
-struct Json(Counts);
+struct Json(Counts, Missing);
+
+/// What JSON says of missing records.
+fn missing_text(missing: Missing) -> &'static str {
+    match missing {
+        Missing::None => "",
+        Missing::Here => ",\"missing\":\"at the end\"",
+        Missing::Before => ",\"missing\":\"before\"",
+    }
+}
 
 impl fmt::Display for Json {
     fn fmt<W: fmt::Write>(&self, f: &mut fmt::Formatter<W>) -> fmt::Result {
@@ -21,17 +30,22 @@ impl fmt::Display for Json {
         f.write_str("{")?;
         write!(f, "\"blobs\":{blobs},\"stored\":{stored},")?;
         write!(f, "\"uploads\":{uploads},\"received\":{received}")?;
+        f.write_str(missing_text(self.1))?;
         f.write_str("}")
     }
 }
 
 /// Prints what the data directory at `path` holds, by the records of its journal; gives the exit status. Records that
-/// can't be read are told on standard error.
+/// can't be read, or are missing, are told on standard error.
 ///
 /// `fault: data` is printed if the journal can't be read, and standard error says why.
 pub fn print_status(rt: &HostRuntime, path: &str, json: bool) -> u8 {
     let mut out = io::writer(rt);
-    let Status { counts, unread } = match read_status(rt, path, limits(), Wary) {
+    let Status {
+        counts,
+        unread,
+        missing,
+    } = match read_status(rt, path, limits(), Wary) {
         Ok(status) => status,
         Err(fault) => {
             let _ = eprintln!(rt; "blobd: can't read {path}: {fault}");
@@ -42,8 +56,9 @@ pub fn print_status(rt: &HostRuntime, path: &str, json: bool) -> u8 {
         let unread = Quantity(unread, "record");
         let _ = eprintln!(rt; "blobd: damage in {path}: {unread} can't be read");
     }
+    tell_end(rt, path, missing);
     if json {
-        return print_line(&mut out, Json(counts), DONE);
+        return print_line(&mut out, Json(counts, missing), DONE);
     }
     print_line(&mut out, WholeHolding(counts), DONE)
 }

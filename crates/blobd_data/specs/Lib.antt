@@ -1,3 +1,4 @@
+pub mod Endings
 pub mod Line
 pub mod Opened
 pub mod Worth

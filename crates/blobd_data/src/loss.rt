@@ -112,6 +112,24 @@ pub fn tell_losses<R: Eprint>(rt: &R, host: &HostRuntime, path: &str, losses: &L
     }
 }
 
+/// Tells on standard error what a journal that is only looked at tells of lost records of the directory at `path`.
+pub fn tell_end<R: Eprint>(rt: &R, path: &str, missing: Missing) {
+    let _ = match missing {
+        Missing::None => Ok(()),
+        Missing::Here => eprintln!(rt;
+            "blobd: damage in {path}: journal: records are missing at its end: it is damaged or cut there, or a copy that was made while a server wrote; a start goes on without them"
+        ),
+        Missing::Before => tell_before(rt, path),
+    };
+}
+
+/// Tells that a start has gone on without records of the directory at `path`.
+fn tell_before<R: Eprint>(rt: &R, path: &str) -> io::Result<()> {
+    eprintln!(rt;
+        "blobd: {path}: an earlier start went on without records that were missing; no file is removed before `blobd compact {path}`"
+    )
+}
+
 /// Tells on standard error what tells of lost records of the directory at `path` that can't be named.
 pub fn tell_missing<R: Eprint>(rt: &R, path: &str, missing: Missing) {
     let _ = match missing {
@@ -119,8 +137,6 @@ pub fn tell_missing<R: Eprint>(rt: &R, path: &str, missing: Missing) {
         Missing::Here => eprintln!(rt;
             "blobd: damage in {path}: journal: records are missing at its end: it is damaged or cut there, or a copy that was made while a server wrote; it goes on without them, and no file is removed before `blobd compact {path}`"
         ),
-        Missing::Before => eprintln!(rt;
-            "blobd: {path}: an earlier start went on without records that were missing; no file is removed before `blobd compact {path}`"
-        ),
+        Missing::Before => tell_before(rt, path),
     };
 }

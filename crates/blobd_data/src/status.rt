@@ -1,10 +1,14 @@
 //! What a data directory holds, by the records of its journal.
+ghost use Rattle.std.specs.Prelude.{◌≡◌};
+ghost use Rattle.blobd_data.specs.Endings.{missing_of};
+
 use crate::fault::DataFault;
 use crate::line::line_of;
-use crate::open::JOURNAL;
-use journal::Journal;
+use crate::open::{JOURNAL, Missing};
+use journal::{Ending, Journal, Looked};
 use journal_file::{FileFrom, OpenFault, Start, look_at};
-use upload_records::take_census;
+use sqlite_disk::Disk;
+use upload_records::{Census, take_census};
 use upload_service::{Counts, Limits};
 use upload_store::StoreFault;
 
@@ -16,6 +20,8 @@ pub struct Status {
     pub counts: Counts,
     /// How many records are no entries: they are damaged.
     pub unread: u64,
+    /// What tells of others that are lost.
+    pub missing: Missing,
 }
 
 /// The journal of the data directory at `path`, of a service with these limits, to be read as it stands, also while a
@@ -36,6 +42,37 @@ pub(crate) fn look_at_journal<J: Start>(
     }
 }
 
+/// How often a journal is looked at that seems to be broken.
+const LOOKS: u32 = 4;
+
+/// What tells of lost records in a journal that was looked at.
+pub fn missing_of(looked: Looked) -> Missing
+    ensures { result ≡ missing_of looked }
+{
+    match looked.ending {
+        Ending::Broken => Missing::Here,
+        _ if looked.has_mark => Missing::Before,
+        _ => Missing::None,
+    }
+}
+
+/// What a journal holds, and how it ends. It may be a server's, who adds to it meanwhile: between two reads it may look as
+/// a broken one does. So one that seems to be broken is looked at again.
+fn census_of<D: Disk>(
+    rt: &HostRuntime,
+    journal: &mut Journal<D>,
+    limits: Limits,
+) -> Result<(Census, Looked), journal::Error> {
+    let mut last = take_census(rt.alloc(), journal, limits)?;
+    for _ in 1..LOOKS {
+        if missing_of(last.1) != Missing::Here {
+            return Ok(last);
+        }
+        last = take_census(rt.alloc(), journal, limits)?;
+    }
+    Ok(last)
+}
+
 /// What the data directory at `path` holds, of a service with these limits. Its journal is read as it stands, also while
 /// a server has it: nothing is locked or written, and no body is read.
 ///
@@ -48,10 +85,11 @@ pub fn read_status<J: Start>(
     start: J,
 ) -> Result<Status, DataFault> {
     let mut journal = look_at_journal(rt, path, limits, start)?;
-    match take_census(rt.alloc(), &mut journal, limits) {
-        Ok(census) => Ok(Status {
+    match census_of(rt, &mut journal, limits) {
+        Ok((census, looked)) => Ok(Status {
             counts: census.counts(),
             unread: census.unread(),
+            missing: missing_of(looked),
         }),
         Err(error) => Err(DataFault::Store(StoreFault::Journal(error))),
     }
