@@ -188,7 +188,8 @@ def second_server(folder):
     """A directory is one server's at a time."""
     path = os.path.join(folder, "data")
     with serving(path) as server:
-        is_refused("a directory that another server has", path, "another server has it")
+        cause = "another server has it; stop that one first: `fuser` names it"
+        is_refused("a directory that another server has", path, cause)
         equal("the first one goes on", ask_alone(server, "GET", "/v2/").status, 200)
     with serving(path) as server:
         equal("the next one", ask_alone(server, "GET", "/v2/").status, 200)
@@ -203,7 +204,7 @@ def no_directory(folder):
     os.symlink("folder", link)
     os.mkdir(os.path.join(folder, "folder"))
     for name, path, word in [
-        ("a file", file, "not a folder"),
+        ("a file", file, "not a folder; name the folder itself"),
         ("a link", link, "not a folder"),
         ("a folder within a file", inner, "not a folder"),
         ("a folder within none", os.path.join(folder, "none/inner"), "No such file"),
@@ -219,7 +220,7 @@ def no_directory(folder):
     if os.access(closed, os.W_OK):
         skip("a folder that may not be written", "this user may write any folder")
     else:
-        is_refused("a folder that may not be written", closed, "no leave")
+        is_refused("a folder that may not be written", closed, "no leave to read and write it; give it and all")
 
 
 # the largest blob, as a journal's first line has it, and the limits behind it
@@ -314,8 +315,8 @@ def other_directories(folder):
          "another version has written it"),
         ("other limits", lambda: changed(journal, LIMIT, LIMIT[::-1]),
          "other limits"),
-        ("no bodies", lambda: shutil.rmtree(f"{folder}/bad/bodies"), "its bodies are missing"),
-        ("no journal", lambda: os.remove(f"{folder}/bad/journal"), "its journal is missing"),
+        ("no bodies", lambda: shutil.rmtree(f"{folder}/bad/bodies"), "its bodies are missing; put them back, or move it away"),
+        ("no journal", lambda: os.remove(f"{folder}/bad/journal"), "its journal is missing; put that back, or move it away"),
     ]
     for name, spoil, word in cases:
         shutil.copytree(good, f"{folder}/bad")
@@ -363,7 +364,7 @@ def damaged_directories(folder):
     for name, spoil, lost, word in cases:
         shutil.copytree(good, bad)
         spoil()
-        is_refused(name, bad, word)
+        is_refused(name, bad, f"{word}; restore a copy, or start without BLOBD_STRICT")
         goes_on(name, bad, lost, word)
         shutil.rmtree(bad)
 
@@ -553,7 +554,7 @@ def goes_on_without(name, path, contents):
     what stands before; that no start removes a file before it is compacted; and that what is pushed then is there."""
     before, more = bodies_of(path), b"more"
     is_looked_at(name, path, AT_THE_END, "at the end")
-    is_refused(f"{name}: a strict start", path, "journal: records are missing at its end")
+    is_refused(f"{name}: a strict start", path, "; put the journal back, or start without BLOBD_STRICT")
     told, status, more_told = run("compact", path)
     check(f"{name}: it isn't compacted", (told, status) == REFUSED and "records are missing" in more_told, more_told)
     with serving_the_rest(path) as server, server.client() as client:

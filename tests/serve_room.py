@@ -5,6 +5,7 @@
 """
 import os
 import random
+import re
 import subprocess
 import time
 
@@ -179,7 +180,8 @@ def smaller_than_a_directory(folder):
         printed, status, told = run("serve", "127.0.0.1:0", env={
             "BLOBD_DATA": path, "BLOBD_MEMORY": "6M", "BLOBD_STRICT": strict})
         equal("what it prints", (printed, status), ("fault: data\n", 3))
-        check("why", "no memory for it" in told and "BLOBD_MEMORY is 6.0 MiB" in told, told)
+        first = re.match(rf"blobd: can't use {path}: it holds \S+ MiB, BLOBD_MEMORY is 6\.0 MiB: ", told)
+        check("why, in the first line", first and "no memory for it" in told and told.count("\n") == 1, told)
     with serving(room="16M", BLOBD_DATA=path) as server:
         has_all(server, stored)
         equal("one more", ask_alone(

@@ -2,7 +2,7 @@
 
 use crate::words::Keep;
 use blobd_data::{
-    AnyBodies, CompactingFault, ListFault, Waste, compact_data, foresee_data, read_list,
+    AnyBodies, CompactingFault, ListFault, Waste, compact_data, foresee_data, hint_on, read_list,
     read_status, seconds_now, tell_end, weigh_data,
 };
 use blobd_serve::limits;
@@ -12,9 +12,13 @@ use std::io::{self, Write};
 use std::thread::Threads;
 use upload_compact::{Forecast, Leaving, Weight};
 
-/// Says why a data directory isn't compacted, and gives the exit status.
+/// Says why a data directory isn't compacted, and what to do; gives the exit status.
 fn print_fault(rt: &HostRuntime, path: &str, fault: &CompactingFault) -> u8 {
-    let _ = eprintln!(rt; "blobd: can't compact {path}: {fault}");
+    let hint = match fault {
+        CompactingFault::Data(fault) => hint_on(fault),
+        _ => "",
+    };
+    let _ = eprintln!(rt; "blobd: can't compact {path}: {fault}{hint}");
     print_line(&mut io::writer(rt), "fault: data", FAULT)
 }
 

@@ -3,8 +3,8 @@ ghost use Rattle.std.specs.Prelude.{◌≡◌, ◌≤◌, []};
 ghost use Rattle.upload_intake.specs.Safety.{Leads};
 
 use blobd_data::{
-    AnyBodies, CompactingFault, Damaged, DataFault, Teller, Watch, compact_if_worth, open_data,
-    read_status, tell_losses, tell_missing,
+    AnyBodies, CompactingFault, Damaged, DataFault, Teller, Watch, compact_if_worth, hint_on,
+    open_data, read_status, tell_losses, tell_missing,
 };
 use blobd_serve::{Terms, limits, run_serve, run_serve_kept};
 use blobd_shared::{ByteCount, FAULT, Holding, print_line};
@@ -50,7 +50,26 @@ fn print_holding<R: Eprint>(rt: &R, counts: Counts, memory: Option<u64>) {
     };
 }
 
-/// Says why a data directory can't be used: if the server may not hold what it has, how much that is.
+/// How many bytes the blobs and uploads of a data directory have, and how many its server may hold, if a want of room is
+/// why it can't be used.
+fn too_much(
+    host: &HostRuntime,
+    path: &str,
+    fault: &DataFault,
+    memory: Option<u64>,
+) -> Option<(u64, u64)> {
+    let may = memory?;
+    if !fault.lacks_room() {
+        return None;
+    }
+    let status = read_status(host, path, limits(), Wary).ok()?;
+    Some((
+        status.counts.stored.saturating_add(status.counts.received),
+        may,
+    ))
+}
+
+/// Says why a data directory can't be used, and what to do: if the server may not hold what it has, how much that is.
 fn print_no_data<R: Eprint>(
     rt: &R,
     host: &HostRuntime,
@@ -58,18 +77,15 @@ fn print_no_data<R: Eprint>(
     fault: &DataFault,
     memory: Option<u64>,
 ) {
-    let _ = eprintln!(rt; "blobd: can't use {path}: {fault}");
-    let Some(bytes) = memory else {
-        return;
+    let _ = match too_much(host, path, fault, memory) {
+        Some((holds, may)) => {
+            let (holds, may) = (ByteCount(holds), ByteCount(may));
+            eprintln!(rt;
+                "blobd: can't use {path}: it holds {holds}, BLOBD_MEMORY is {may}: set that to more; {fault}"
+            )
+        }
+        None => eprintln!(rt; "blobd: can't use {path}: {fault}{}", hint_on(fault)),
     };
-    if !fault.lacks_room() {
-        return;
-    }
-    if let Ok(status) = read_status(host, path, limits(), Wary) {
-        let holds = ByteCount(status.counts.stored.saturating_add(status.counts.received));
-        let may = ByteCount(bytes);
-        let _ = eprintln!(rt; "blobd: {path} holds {holds}, BLOBD_MEMORY is {may}");
-    }
 }
 
 /// Tells somebody who looks on how a server is stopped.

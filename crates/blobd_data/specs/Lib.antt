@@ -1,4 +1,5 @@
 pub mod Endings
+pub mod Hints
 pub mod Line
 pub mod Opened
 pub mod Worth

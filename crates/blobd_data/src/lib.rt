@@ -27,5 +27,6 @@ pub use loss::{tell_end, tell_losses, tell_missing};
 pub use open::{AnyBodies, Damaged, Data, Missing, open_data};
 pub use progress::Watch;
 pub use status::{Status, missing_of, read_status};
+pub use texts::hint_on;
 pub use weighing::{Waste, foresee_data, weigh_data};
 pub use worth::{compact_if_worth, is_worth};

@@ -1,4 +1,9 @@
 //! What is told of the faults of a store.
+ghost use Rattle.std.specs.Prelude.{◌≡◌};
+ghost use Rattle.blobd_data.specs.Hints.{hint_on, hint_on_folder, hint_on_journal, hint_on_store};
+
+use crate::fault::DataFault;
+use journal_file::OpenFault;
 use std::fmt;
 use upload_journal::{BodyFault, EntryFault, ReplayFault};
 use upload_keeping::KeepFault;
@@ -97,6 +102,65 @@ impl fmt::Display for ReplayText {
             }
             ReplayFault::NotAsRecorded => f.write_str("its answer comes out otherwise"),
         }
+    }
+}
+
+/// What to do about a folder or a file that can't be opened.
+fn hint_on_folder(fault: &OpenFault) -> &'static str
+    ensures { result.now ≡ hint_on_folder fault.now }
+{
+    match fault {
+        OpenFault::Locked => "; stop that one first: `fuser` names it",
+        OpenFault::NotAFolder => "; name the folder itself",
+        OpenFault::Denied =>
+            "; give it and all that is in it to the user of the server (`chown -R`)",
+        _ => "",
+    }
+}
+
+/// What to do about a journal that can't be read.
+fn hint_on_journal(error: &journal::Error) -> &'static str
+    ensures { result.now ≡ hint_on_journal error.now }
+{
+    match error {
+        journal::Error::NotAJournal
+        | journal::Error::OtherVersion
+        | journal::Error::OtherParameters => "; use the program that wrote it, or another folder",
+        _ => "",
+    }
+}
+
+/// What to do about a store that can't be opened. A want of memory says it by itself.
+fn hint_on_store(fault: &StoreFault) -> &'static str
+    ensures { result.now ≡ hint_on_store fault.now }
+{
+    match fault {
+        StoreFault::Journal(error) => hint_on_journal(error),
+        StoreFault::Record(
+            RefusedRecord {
+                fault: ReplayFault::NoMemory,
+                ..
+            },
+        ) => "",
+        StoreFault::Record(_) =>
+            "; restore a copy, or start without BLOBD_STRICT, which serves the rest",
+        _ => "",
+    }
+}
+
+/// What to do about a directory that can't be used, to be told behind why; empty if that says it.
+pub fn hint_on(fault: &DataFault) -> &'static str
+    ensures { result.now ≡ hint_on fault.now }
+{
+    match fault {
+        DataFault::Folder(fault) | DataFault::Journal(fault) | DataFault::Bodies(fault) =>
+            hint_on_folder(fault),
+        DataFault::NoBodies => "; put them back, or move it away and push again",
+        DataFault::NoJournal | DataFault::EmptyJournal =>
+            "; put that back, or move it away and push again",
+        DataFault::BrokenJournal =>
+            "; put the journal back, or start without BLOBD_STRICT, which goes on without them",
+        DataFault::Store(fault) => hint_on_store(fault),
     }
 }
 
