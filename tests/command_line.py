@@ -3,6 +3,7 @@
 
     command_line.py PROGRAM
 """
+import contextlib
 import os
 import socket
 import subprocess
@@ -60,6 +61,34 @@ def help_and_version():
     check("help fits a terminal", max(map(len, told.splitlines())) <= 100, told)
     for others in (["--help", "push"], ["--version", "1"], ["-h"], ["help"]):
         are_refused(*others)
+
+
+@case()
+def a_terminal_is_told_which_word():
+    """Behind the usage, which is the same there."""
+    for words, told in (
+        (["serve", "localhost:5000"], "ADDR is an IP address and a port"),
+        (["push", "127.0.0.1", "lib/a", "file"], "ADDR is an IP address and a port"),
+        (["serve", "127.0.0.1:0", "0"], "COUNT is a number from 1 to 1000000"),
+        (["push", "127.0.0.1:1", "lib/a", "file", "16MB"], "CHUNK is a number of bytes"),
+        (["push", "127.0.0.1:1", "lib/a"], "the command has other words"),
+        (["--help", "push"], "the command has other words"),
+        (["help"], "no such command"),
+        ([], "no such command"),
+        (["push", "127.0.0.1:1", "lib/a", b"\xff"], "a word isn't UTF-8"),
+    ):
+        terminal, inner = os.openpty()
+        ran = subprocess.run([OPTIONS.program, *words], stdout=subprocess.PIPE, stderr=inner, timeout=PATIENCE, check=False)
+        os.close(inner)
+        printed = b""
+        # a terminal that nobody has open any more ends with an error
+        with contextlib.suppress(OSError):
+            while part := os.read(terminal, 65536):
+                printed += part
+        os.close(terminal)
+        usage, more = printed.decode().replace("\r\n", "\n").split("\n", 1)
+        equal(f"{words}: what is printed", (ran.stdout, ran.returncode, usage + "\n"), (b"", 2, USAGE))
+        check(f"{words}: what is told", more.startswith(f"blobd: {told}") and more.count("\n") == 1, more)
 
 
 @case()

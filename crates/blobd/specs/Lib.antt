@@ -1,3 +1,4 @@
+pub mod Complaints
 pub mod Once
 pub mod Size
 pub mod Words

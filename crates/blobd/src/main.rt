@@ -14,6 +14,7 @@
 ghost use Rattle.std.specs.Prelude.{◌≡◌, ◌≤◌, IfOk};
 
 mod compacting;
+mod complaint;
 mod help;
 mod listening;
 mod memory;
@@ -26,6 +27,7 @@ mod tests;
 mod words;
 
 use crate::compacting::run_compact;
+use crate::complaint::{Complaint, complaint_on, complaint_text};
 use crate::help::{HELP, VERSION};
 use crate::listening::{listen, listen_keeping};
 use crate::memory::usual_memory;
@@ -98,8 +100,12 @@ const DATA: &str = "BLOBD_DATA";
 /// More connections than ever come.
 const ENDLESS: u64 = u64::MAX;
 
-fn print_usage(rt: &HostRuntime) -> u8 {
+/// Prints the usage, and to somebody who looks on what is wrong with the words; gives the exit status.
+fn print_usage(rt: &HostRuntime, complaint: Complaint, seen: bool) -> u8 {
     let _ = eprintln!(rt; "{USAGE}");
+    if seen {
+        let _ = eprintln!(rt; "blobd: {}", complaint_text(complaint));
+    }
     NO_COMMAND
 }
 
@@ -278,10 +284,10 @@ fn terms_of(rt: &HostRuntime, count: Option<u64>) -> Result<Terms, u8>
 }
 
 /// Says why there are no words, and gives the exit status. Words that aren't UTF-8 are no command.
-fn print_no_args(rt: &HostRuntime, error: &io::Error) -> u8 {
+fn print_no_args(rt: &HostRuntime, error: &io::Error, seen: bool) -> u8 {
     match error.kind() {
         ErrorKind::OutOfMemory => print_no_memory(rt),
-        _ => print_usage(rt),
+        _ => print_usage(rt, Complaint::NoText, seen),
     }
 }
 
@@ -295,9 +301,11 @@ fn main(rt: HostRuntime) -> ExitCode {
     if let Err(error) = hold_standard_streams(&rt) {
         return ExitCode::from(print_no_streams(&rt, &error));
     }
+    // Whether somebody looks on.
+    let seen = rt.stderr().is_terminal();
     let args = match args_of(&rt) {
         Ok(args) => args,
-        Err(error) => return ExitCode::from(print_no_args(&rt, &error)),
+        Err(error) => return ExitCode::from(print_no_args(&rt, &error, seen)),
     };
     let Ok(words) = args
         .iter()
@@ -306,8 +314,6 @@ fn main(rt: HostRuntime) -> ExitCode {
     else {
         return ExitCode::from(print_no_memory(&rt));
     };
-    // Whether somebody looks on.
-    let seen = rt.stderr().is_terminal();
     ExitCode::from(match read_words(&words) {
         Some(Command::Once) => serve_input(&rt),
         Some(Command::Serve { addr, count }) => serve(&rt, &rt, addr, count, seen),
@@ -323,6 +329,6 @@ fn main(rt: HostRuntime) -> ExitCode {
                 chunk,
             },
         ) => push_file(&rt, addr, name, file, chunk, seen),
-        None => print_usage(&rt),
+        None => print_usage(&rt, complaint_on(&words), seen),
     })
 }

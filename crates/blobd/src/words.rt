@@ -10,7 +10,7 @@ use std::net::SocketAddr;
 pub const USAGE: &str = "usage: blobd once | serve ADDR COUNT | push ADDR NAME FILE CHUNK";
 
 /// The most connections that one worker serves.
-const MOST_CONNECTIONS: u64 = 1_000_000;
+pub(crate) const MOST_CONNECTIONS: u64 = 1_000_000;
 
 /// The most workers of a server.
 const MOST_WORKERS: u64 = 256;
@@ -81,7 +81,7 @@ fn read_within(word: &str, least: u64, most: u64) -> Option<u64>
 }
 
 /// The number from 1 to `most` that a word writes.
-fn read_count(word: &str, most: u64) -> Option<u64>
+pub(crate) fn read_count(word: &str, most: u64) -> Option<u64>
     ensures { MatchOption result ((number : ℕ) → ¬ (IsCount most word.now number))
         (IsCount most word.now) }
 {
@@ -97,7 +97,7 @@ pub fn read_workers(value: &str) -> Option<u64>
 }
 
 /// The IP address and port that a word writes.
-fn read_addr(word: &str) -> Option<SocketAddr>
+pub(crate) fn read_addr(word: &str) -> Option<SocketAddr>
     ensures { MatchOption result ((addr : SocketAddr) → ¬ (IsSocketText word.now addr))
         (IsSocketText word.now) }
 {
