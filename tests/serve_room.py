@@ -10,7 +10,7 @@ import subprocess
 import time
 
 from harness import shims
-from harness.running import Server, ask_alone, pull, run
+from harness.running import FULL, Server, ask_alone, pull, run
 from harness.suite import OPTIONS, case, check, equal, main
 from harness.wire import sha256
 
@@ -186,6 +186,27 @@ def smaller_than_a_directory(folder):
         has_all(server, stored)
         equal("one more", ask_alone(
             server, "POST", f"/v2/{NAME}/blobs/uploads/?digest={sha256(b'more')}", b"more").status, 201)
+
+
+@case("cc")
+def a_full_server_says_so(folder):
+    """On standard error, with a log and without one: at the first request that has no room, and then at most once a minute,
+    by all workers together."""
+    chance = random.Random(OPTIONS.seed)
+    for log in "01":
+        clock = os.path.join(folder, f"clock-{log}")
+        shims.pass_time(clock, 0)
+        ahead = shims.loaded(folder, "ahead", CLOCK_AHEAD=clock)
+        with serving(room=100_000, BLOBD_LOG=log, BLOBD_WORKERS=4, **ahead) as server:
+            with server.client() as one, server.client() as other:
+                for seconds in (0, 59, 61, 121):
+                    shims.pass_time(clock, seconds)
+                    for client in (one, other, one):
+                        filled(client, chance, (30_000,))
+            server.process.terminate()
+            told = server.process.stderr.read()
+        equal(f"how often it is told, with BLOBD_LOG={log}", told.count(FULL), 3)
+        check("no other line without a log", log == "1" or told == FULL * 3, told)
 
 
 if __name__ == "__main__":

@@ -73,7 +73,9 @@ def soak(workers, is_refused, **settings):
             check(f"client {which} of {what}", not wrong, wrong)
         check(f"all serve at once of {what}", all_serve(server, workers, is_refused))
         goes_on = server.process.poll() is None
-        equal(f"the server goes on, and says nothing: {what}", (goes_on, server.stop()), (True, ""))
+        # One that refuses requests for want of room says so, at most once a minute.
+        said = set(server.stop().splitlines()) - ({running.FULL.rstrip()} if is_refused else set())
+        equal(f"the server goes on, and says nothing else: {what}", (goes_on, said), (True, set()))
     counts = ", ".join(f"{name} {number}" for name, number in sorted(seen.items()))
     print(f"workers {workers}, clients {count}: {counts}", flush=True)
     check(f"what the clients met of {what}", MET <= set(seen) and (not is_refused or REFUSED & set(seen)), seen)

@@ -21,6 +21,10 @@ MIB = 1 << 20
 # What it prints to standard error, in a line, for words that are no command; and a server once it has served its count.
 USAGE = "usage: blobd once | serve ADDR COUNT | push ADDR NAME FILE CHUNK\n"
 SERVED = "served\n", 0
+# what a server says at most once a minute if requests have no room
+FULL = (
+    "blobd: requests are refused (503) for want of room: in memory (BLOBD_MEMORY), or on the disk of its data directory\n"
+)
 
 # Requests as they are sent.
 BASE = b"GET /v2/ HTTP/1.1\r\n\r\n"

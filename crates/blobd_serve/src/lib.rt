@@ -6,8 +6,8 @@
 //! are taken in their order (`accept`, and `steps` for an accept that failed), cut if the client is too slow (`paced`),
 //! and closed by a thread of their own (`closing`). Each request is logged if the terms say so: `request_log` says what
 //! a line has, `shown` and `time_of_day` how it shows a target and the time, `log_lines` what becomes of it; `holdings`
-//! has it say what the service holds.
-//! `background` has what the thread that closes and the one that writes the log have in common. `laws` joins a worker's
+//! has it say what the service holds. With a log or without one, `fullness` says when it is told that requests find no
+//! room. `background` has what the thread that closes and the one that writes the log have in common. `laws` joins a worker's
 //! connections to the laws from end to end.
 #![tactic(auto)]
 
@@ -15,6 +15,7 @@ mod accept;
 mod accepts;
 mod background;
 mod closing;
+mod fullness;
 mod holdings;
 mod kept;
 mod laws;

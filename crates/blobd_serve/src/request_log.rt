@@ -1,11 +1,14 @@
-//! A log of requests: a line for each reply, on standard error.
+//! A log of requests: a line for each reply, on standard error; and a line if one is refused for want of room, also
+//! without a log.
 ghost use Rattle.std.specs.Prelude.{◌≡◌, IfOk, string_bytes};
 ghost use Rattle.blobd_serve.specs.LogLine.{line_text};
 
+use crate::fullness::Fullness;
 use crate::log_lines::LogLines;
 use crate::shown::shown_request;
 use crate::time_of_day::time_now;
 use std::alloc::{AllocError, Global};
+use std::io::Eprint;
 use std::rt::Clock;
 use std::sync::Wait;
 use std::time::Instant;
@@ -14,6 +17,13 @@ use upload_wire::{Observer, RequestLine};
 /// What is shown of a head that can't be read, and of one for which there is no memory.
 const NO_HEAD: &str = "-";
 
+/// The status of what has no room.
+const UNAVAILABLE: u16 = 503;
+
+/// What is told then.
+const FULL: &str =
+    "blobd: requests are refused (503) for want of room: in memory (BLOBD_MEMORY), or on the disk of its data directory";
+
 /// The log of one worker. No request waits for its line to be written.
 #[derive(Drop)]
 pub(crate) struct RequestLog<'a, R> {
@@ -21,6 +31,8 @@ pub(crate) struct RequestLog<'a, R> {
     alloc: Global,
     /// Where lines go, if any are wanted.
     lines: Option<LogLines>,
+    /// When it may be told that there is no room.
+    fullness: Fullness,
     /// The method and the target of the head that came last; none if it can't be read, or there was no memory for
     /// them.
     head: Option<String>,
@@ -28,22 +40,42 @@ pub(crate) struct RequestLog<'a, R> {
     heard: Option<Instant>,
 }
 
-impl<'a, R: Clock + Wait> RequestLog<'a, R> {
+impl<'a, R: Clock + Eprint + Wait> RequestLog<'a, R> {
     /// A log of requests to come, if there is a place for its lines.
-    pub(crate) fn new(rt: &'a R, alloc: Global, lines: Option<LogLines>) -> RequestLog<'a, R>
+    pub(crate) fn new(
+        rt: &'a R,
+        alloc: Global,
+        lines: Option<LogLines>,
+        fullness: Fullness,
+    ) -> RequestLog<'a, R>
         ensures { result.lines ≡ lines }
     {
         RequestLog {
             rt,
             alloc,
             lines,
+            fullness,
             head: None,
             heard: None,
         }
     }
+
+    /// Tells that there is no room. If there is a log, it is a line of that: no worker waits for who reads it.
+    fn tell_full(&mut self) {
+        let rt = self.rt;
+        let Some(lines) = &mut self.lines else {
+            // Nothing is promised of standard error.
+            let _ = eprintln!(rt; "{FULL}");
+            return;
+        };
+        match format!(in self.alloc; "{FULL}") {
+            Ok(text) => lines.send(rt, text),
+            Err(_) => lines.lose(),
+        }
+    }
 }
 
-impl<'a, R: Clock + Wait> Observer for RequestLog<'a, R> {
+impl<'a, R: Clock + Eprint + Wait> Observer for RequestLog<'a, R> {
     ghost use Rattle.std.specs.Prelude.{⊤};
 
     // Which lines it hands on is tested.
@@ -57,6 +89,9 @@ impl<'a, R: Clock + Wait> Observer for RequestLog<'a, R> {
     }
 
     fn replied(&mut self, status: u16, size: u64) {
+        if status == UNAVAILABLE && self.fullness.tells(self.rt) {
+            self.tell_full();
+        }
         if let Some(lines) = &mut self.lines {
             let millis = millis_since(self.rt, self.heard);
             let head = self.head.as_deref().unwrap_or(NO_HEAD);

@@ -8,6 +8,7 @@ ghost use Rattle.blobd_serve.specs.Doors.{doors_of, lefts_of};
 
 use crate::accept::{Accepted, Terms};
 use crate::accepts::Accepts;
+use crate::fullness::Fullness;
 use crate::holdings::Holdings;
 use crate::log_lines::{Log, LogLines};
 use crate::request_log::RequestLog;
@@ -150,6 +151,7 @@ fn make_worker<'a, L, R>(
     door: L,
     terms: Terms,
     log: &Option<Log>,
+    fullness: Fullness,
 ) -> Result<DoorWorker<'a, L, R>, Lack>
 where
     L: Accepts + Drop,
@@ -167,7 +169,7 @@ where
         conns,
         secrets,
         gate: NoGate,
-        observer: RequestLog::new(rt, rt.alloc(), lines),
+        observer: RequestLog::new(rt, rt.alloc(), lines, fullness),
     })
 }
 
@@ -186,8 +188,9 @@ where
         (lefts_of workers.items)) }
 {
     let mut workers = Vec::new(rt.alloc());
+    let fullness = Fullness::new(rt, rt.alloc())?;
     for door in doors {
-        let worker = make_worker(rt, door, terms, log)?;
+        let worker = make_worker(rt, door, terms, log, fullness.share()?)?;
         let Ok(()) = workers.push(worker) else {
             return Err(Lack::Memory);
         };
