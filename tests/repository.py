@@ -72,6 +72,7 @@ NO_CLAUSE = {
         "open_shelf",
         "look_at_journal",
         "refuse_cut",
+        "has_bodies",
         "is_there",
         "compact_data",
         "weigh_data",

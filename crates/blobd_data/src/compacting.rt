@@ -4,7 +4,7 @@ ghost use Rattle.upload_service.specs.Machine.{AreLawful};
 
 use crate::fault::DataFault;
 use crate::line::line_of;
-use crate::open::{FRESH, JOURNAL, open_journal, open_shelf, refuse_cut};
+use crate::open::{FRESH, JOURNAL, has_bodies, open_journal, open_shelf, refuse_cut};
 use crate::texts::StoreText;
 use blobd_shared::{ByteCount, Quantity};
 use bodies::{AheadShelf, Holds, Shelf};
@@ -186,6 +186,10 @@ fn sweep_by<D: Disk + Drop, S: Shelf + Drop>(
 ) -> Result<u64, CompactingFault> {
     let mut journal = journal;
     let mut shelf = shelf;
+    // The records needn't be read for that if there is no file.
+    if matches!(has_bodies(rt, &mut shelf), Ok(false)) {
+        return Ok(0);
+    }
     match sweep(rt.alloc(), &mut journal, &mut shelf) {
         Ok(swept) => Ok(swept.removed.unwrap_or(0)),
         Err(fault) => Err(CompactingFault::Sweep(fault)),

@@ -170,7 +170,7 @@ pub(crate) fn open_shelf<S: Start, H: Holds>(
 }
 
 /// Whether a shelf has bodies.
-fn has_bodies<S: Shelf>(rt: &HostRuntime, shelf: &mut S) -> Result<bool, DataFault> {
+pub(crate) fn has_bodies<S: Shelf>(rt: &HostRuntime, shelf: &mut S) -> Result<bool, DataFault> {
     match shelf.numbers(rt.alloc()) {
         Ok(numbers) => Ok(!numbers.is_empty()),
         Err(fault) => Err(DataFault::Store(StoreFault::Body(fault))),
