@@ -57,10 +57,19 @@ OF_TESTS = re.compile(r"^#\[cfg\(test\)\]\nmod (\w+);", re.MULTILINE)
 # Functions of which no clause says anything, since none can speak of another thread, of what is told to people, or of a
 # file that is another process's. Tests stand for them.
 NO_CLAUSE = {
-    "upload_bytes": {"ThreadEnd::new", "ThreadEnd::wait", "Room::of", "Upload::stays"},
+    "upload_bytes": {
+        "ThreadEnd::new",
+        "ThreadEnd::wait",
+        "Room::of",
+        "Upload::stays",
+        "Spool::in_folder",
+        "Spool::in_memory",
+        "SpoolFile::sync_data",
+        "SyncedFile::path",
+    },
     "upload_service": {"Service::is_scarce", "Service::room"},
     "upload_store": {"hint_of", "most_ahead"},
-    "journal_file": {"Folder::remove", "Folder::rename", "make_plain"},
+    "journal_file": {"Folder::remove", "Folder::rename"},
     "blobd_data": {
         "tell_losses",
         "tell_missing",

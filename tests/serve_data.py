@@ -129,6 +129,44 @@ def many_large_bodies(folder):
         check("each blob", not wrong, wrong)
 
 
+def spooled(server, path):
+    """How many files of bodies that have no number a server has in its folder, and how many of them it has open."""
+    there = os.listdir(os.path.join(path, "bodies", "new"))
+    fds = f"/proc/{server.process.pid}/fd"
+    opened = 0
+    for fd in os.listdir(fds):
+        with contextlib.suppress(OSError):
+            opened += "/bodies/new/" in os.readlink(os.path.join(fds, fd))
+    return len(there), opened
+
+
+@case()
+def cut_bodies(folder):
+    """A body that is cut leaves no file and no descriptor, wherever it is cut and whatever its request was to do."""
+    path, chance = os.path.join(folder, "data"), random.Random(7)
+    content = chance.randbytes(20 * MIB)
+    with serving(path, env={"BLOBD_WORKERS": "2"}) as server:
+        targets = [
+            ("PATCH", server.opened(NAME)),
+            ("PUT", f"{server.opened(NAME)}?digest={sha256(content)}"),
+            ("POST", f"/v2/{NAME}/blobs/uploads/?digest={sha256(content)}"),
+            ("PATCH", f"/v2/{NAME}/blobs/uploads/00000000-0000-4000-8000-000000000000"),
+        ]
+        for number in range(12):
+            method, target = targets[number % len(targets)]
+            cut = chance.randrange(5 * MIB, len(content))
+            text = request_text(method, target, content)
+            with server.connect() as connection:
+                connection.sendall(text[: len(text) - len(content) + cut])
+        found = spooled(server, path)
+        until = time.monotonic() + 10
+        while found != (0, 0) and time.monotonic() < until:
+            time.sleep(0.05)
+            found = spooled(server, path)
+        equal("what cut bodies leave: files, and how many are open", found, (0, 0))
+        check("the server goes on", server.process.poll() is None)
+
+
 @case()
 def whose_it_is(folder):
     """A directory is made for its owner alone, and holds a journal and bodies."""

@@ -1,12 +1,8 @@
 -- A power cut, one number after the other.
-use Rattle.std.proofs.Common.{◌≡◌, ◌⊎◌, inl, inr, ℕ, List, Option, sym, subst}
+use Rattle.std.proofs.Common.{inl, inr, ℕ, List, Option, sym, subst}
 use Rattle.std.proofs.lemmas.Bool.Decides.{eqb_tells}
 use Rattle.bodies.specs.declared.memory.MemoryShelf.{MemoryShelf}
 use Rattle.bodies.specs.MemoryShelf.{held_of, left_of, IsCut, IsCutAt}
-use Rattle.bodies.proofs.Staying.{stays}
-
-pub cut_none : (shelf : MemoryShelf) → IsCut shelf shelf
-cut_none shelf = record { left = λ n. stays shelf.calls.items n; fewer = λ n file h. h }
 
 module _ (old mid new : MemoryShelf) (number : ℕ) (first : IsCut old mid) (then' : IsCutAt mid new number) where
   fewer_here : (n : ℕ) (file : Option (List ℕ)) → left_of new n file → left_of mid n file

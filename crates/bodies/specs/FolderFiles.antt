@@ -7,13 +7,13 @@ use Rattle.bodies.specs.declared.closed.Closed.{Closed}
 use Rattle.bodies.specs.declared.closed.Closed.TheVariants.{Written, Whole}
 
 module _ {S : Type 0} (start : Ghosts S) where
-  -- its member `seen`, or the body that it has
+  -- its member `seen`, or the bytes that it has
   abbrev pub seen_of : Closed S start → List ℕ
   seen_of (Written file) = (model_of start file.value).seen
-  seen_of (Whole body) = body.value
+  seen_of (Whole file) = file.value
 
-  -- its member `may_leave`, or just that body
+  -- its member `may_leave`, or just those bytes
   abbrev pub may_leave_of : Closed S start → List ℕ → Type 0
   may_leave_of (Written file) bytes =
       let m = model_of start file.value in MayLeave start.is_mixing m.seen m.synced m.steps bytes
-  may_leave_of (Whole body) bytes = bytes ≡ body.value
+  may_leave_of (Whole file) bytes = bytes ≡ file.value

@@ -9,4 +9,3 @@ pub mod MemoryShelf
 pub mod Shelf
 pub mod Reader
 pub mod AheadShelf
-pub mod Unnamed

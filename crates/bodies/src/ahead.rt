@@ -7,13 +7,12 @@ use crate::fault::BodyFault;
 use crate::hint::Hint;
 use crate::lending::Lends;
 use crate::shelf::Shelf;
-use crate::unnamed::{Synced, Unnamed};
 use crate::whole::{Whole, read_whole};
 use std::alloc::Global;
 use std::collections::VecDeque;
 use std::io;
 use std::thread::{self, JoinHandle, Threads};
-use upload_bytes::Body;
+use upload_bytes::{Body, Spool, SyncedFile};
 
 /// The stack of a thread that reads, in bytes.
 const STACK: usize = 262_144;
@@ -216,16 +215,12 @@ impl<'a, R: Threads, S: Lends> Shelf for AheadShelf<'a, R, S> {
         self.inner.sync(number)
     }
 
-    fn make_unnamed(&mut self) -> Result<Unnamed, BodyFault> {
-        self.inner.make_unnamed()
+    fn spool(&self) -> Option<Spool> {
+        self.inner.spool()
     }
 
-    fn name(&mut self, number: u64, synced: Synced) -> Result<(), BodyFault> {
-        self.inner.name(number, synced)
-    }
-
-    fn empty(&mut self, slot: u64) {
-        self.inner.empty(slot);
+    fn name(&mut self, number: u64, file: &SyncedFile) -> Result<(), BodyFault> {
+        self.inner.name(number, file)
     }
 
     fn read_at(&mut self, number: u64, at: usize, buf: &mut [u8]) -> Result<usize, BodyFault> {

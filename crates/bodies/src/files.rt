@@ -12,9 +12,8 @@ use crate::fault::BodyFault;
 use crate::lending::Lends;
 use crate::reader::BodyReader;
 use crate::shelf::Shelf;
-use crate::unnamed::{Synced, Unnamed};
 use journal_file::{
-    FileFrom, Folder, Notes, OpenFault, Start, make_file, make_folder, make_plain, sync_folder,
+    FileFrom, Folder, Notes, OpenFault, Start, make_file, make_folder, sync_folder,
 };
 use std::alloc::Global;
 use std::fs;
@@ -22,6 +21,7 @@ use std::io::{self, ErrorKind};
 use std::marker::PhantomData;
 use std::os::unix::fs::FileExt;
 use std::snapshot::Snapshot;
+use upload_bytes::{Spool, SyncedFile};
 
 /// What is supposed of the bodies as a folder is opened. A function over `H: Holds` is proved for all.
 pub trait Holds {
@@ -35,8 +35,8 @@ pub trait Holds {
 /// How many folders there are: one for each value of a number's low byte.
 const FOLDERS: u64 = 256;
 
-/// The folder of the files that have no number yet.
-const UNNAMED: &str = "new";
+/// The folder of the spool.
+const SPOOL: &str = "new";
 
 /// Bodies in a folder of 256 folders, which the low byte of the number names, so that none is large. `S` stands for a
 /// file that is new, and `H` for the bodies that were there.
@@ -47,15 +47,14 @@ pub struct FolderShelf<S: Start, H: Holds> {
     calls: Notes<Call<Closed<S>>>,
     is_usable: bool,
     counter: Counter,
-    /// The slot of the next file that has no number.
-    next_slot: u64,
+    spool: Spool,
     held: PhantomData<H>,
     ghost empty: { S.Start.db ≡ [] },
 }
 
 impl<S: Start, H: Holds> FolderShelf<S, H> {
-    /// Opens the shelf of this name in a folder, and makes what is missing of it, each folder with mode 0700. Files that
-    /// have no number are removed: a server that was killed left them.
+    /// Opens the shelf of this name in a folder, and makes what is missing of it, each folder with mode 0700. The files of
+    /// its spool are removed: a server that was killed left them.
     pub fn open(
         rt: &HostRuntime,
         folder: &Folder,
@@ -69,7 +68,8 @@ impl<S: Start, H: Holds> FolderShelf<S, H> {
         for low in 0..FOLDERS {
             make_folder(rt, path_within(rt, path.as_str(), low)?.as_str())?;
         }
-        make_empty(rt, unnamed_within(rt, path.as_str())?.as_str())?;
+        let spool = format!(in rt.alloc(); "{path}/{SPOOL}").map_err(io::Error::from)?;
+        make_empty(rt, spool.as_str())?;
         sync_folder(rt, path.as_str())?;
         folder.sync()?;
         Ok(FolderShelf {
@@ -78,7 +78,7 @@ impl<S: Start, H: Holds> FolderShelf<S, H> {
             calls: Notes::none(),
             is_usable: true,
             counter: Counter::new(rt.alloc()).map_err(io::Error::from)?,
-            next_slot: 0,
+            spool: Spool::in_folder(rt, spool).map_err(io::Error::from)?,
             held: PhantomData,
         })
     }
@@ -109,36 +109,19 @@ impl<S: Start, H: Holds> FolderShelf<S, H> {
         make_file(&self.rt, self.path_of(number)?.as_str())
     }
 
-    /// Where the file of a slot is.
-    fn path_of_slot(&self, slot: u64) -> io::Result<String> {
-        let folder = unnamed_within(&self.rt, self.path.as_str())?;
-        Ok(format!(in self.rt.alloc(); "{folder}/{slot}")?)
-    }
-
-    /// Makes the file of a slot.
-    fn make_in(&self, slot: u64) -> io::Result<Unnamed> {
-        let file = make_plain(&self.rt, self.path_of_slot(slot)?.as_str())?;
-        Ok(Unnamed::on_disk(slot, file))
-    }
-
-    /// Has the file of a slot stand at this number, unless something stands there: nobody else puts something there
+    /// Has a file of the spool stand at this number, unless something stands there: nobody else puts something there
     /// meanwhile, since the folder is locked.
-    fn rename(&self, slot: u64, number: u64) -> io::Result<()> {
-        let from = self.path_of_slot(slot)?;
+    fn rename(&self, file: &SyncedFile, number: u64) -> io::Result<()> {
+        let Some(from) = file.path() else {
+            return Err(ErrorKind::InvalidInput.into());
+        };
         let to = self.path_of(number)?;
         match fs::symlink_metadata(&self.rt, to.as_str()) {
             Ok(_) => Err(ErrorKind::AlreadyExists.into()),
             Err(error) if error.kind() == ErrorKind::NotFound => {
-                fs::rename(&self.rt, from.as_str(), to.as_str())
+                fs::rename(&self.rt, from, to.as_str())
             }
             Err(error) => Err(error),
-        }
-    }
-
-    /// Removes the file of a slot, if that can be.
-    fn remove_slot(&self, slot: u64) {
-        if let Ok(path) = self.path_of_slot(slot) {
-            let _ = fs::remove_file(&self.rt, path.as_str());
         }
     }
 
@@ -215,11 +198,6 @@ impl<S: Start, H: Holds> FolderShelf<S, H> {
 
 fn path_within(rt: &HostRuntime, path: &str, low: u64) -> io::Result<String> {
     Ok(format!(in rt.alloc(); "{path}/{low:02x}")?)
-}
-
-/// Where the files are that have no number.
-fn unnamed_within(rt: &HostRuntime, path: &str) -> io::Result<String> {
-    Ok(format!(in rt.alloc(); "{path}/{UNNAMED}")?)
 }
 
 /// Makes a folder, if it isn't there, and removes the files in it.
@@ -301,33 +279,20 @@ impl<S: Start, H: Holds> Shelf for FolderShelf<S, H> {
         }
     }
 
-    fn make_unnamed(&mut self) -> Result<Unnamed, BodyFault> {
-        let slot = self.next_slot;
-        self.next_slot = slot.wrapping_add(1);
-        match self.make_in(slot) {
-            Ok(unnamed) => Ok(unnamed),
-            Err(error) => Err(self.fail(error)),
-        }
+    fn spool(&self) -> Option<Spool> {
+        self.spool.share().ok()
     }
 
-    fn name(&mut self, number: u64, synced: Synced) -> Result<(), BodyFault> {
-        let slot = synced.slot();
-        match self.rename(slot, number) {
+    fn name(&mut self, number: u64, file: &SyncedFile) -> Result<(), BodyFault> {
+        match self.rename(file, number) {
             Ok(()) => {
                 self.note(Call::Made(number));
-                let whole = Closed::Whole(Snapshot::of(synced.body()));
+                let whole = Closed::Whole(Snapshot::of(file));
                 self.note(Call::Closed(number, whole));
                 Ok(())
             }
-            Err(error) => {
-                self.remove_slot(slot);
-                Err(self.refuse_name(number, error))
-            }
+            Err(error) => Err(self.refuse_name(number, error)),
         }
-    }
-
-    fn empty(&mut self, slot: u64) {
-        self.remove_slot(slot);
     }
 
     fn read_at(&mut self, number: u64, at: usize, buf: &mut [u8]) -> Result<usize, BodyFault> {

@@ -4,9 +4,9 @@ ghost use Rattle.sqlite_disk.specs.Disk.{CountsFault};
 
 use crate::fault::BodyFault;
 use crate::shelf::Shelf;
-use crate::unnamed::{Synced, Unnamed};
 use std::alloc::Global;
 use std::io;
+use upload_bytes::{Spool, SyncedFile};
 
 /// A shelf whose calls fail from some call on, for tests. Its files go on.
 #[derive(Drop)]
@@ -94,24 +94,15 @@ impl<S: Shelf> Shelf for FuseShelf<S> {
         self.inner.sync(number)
     }
 
-    fn make_unnamed(&mut self) -> Result<Unnamed, BodyFault> {
+    fn spool(&self) -> Option<Spool> {
+        self.inner.spool()
+    }
+
+    fn name(&mut self, number: u64, file: &SyncedFile) -> Result<(), BodyFault> {
         if let Err(error) = spend(&mut self.calls_left, &mut self.refused) {
             return Err(BodyFault::Io(error));
         }
-        self.inner.make_unnamed()
-    }
-
-    fn name(&mut self, number: u64, synced: Synced) -> Result<(), BodyFault> {
-        if let Err(error) = spend(&mut self.calls_left, &mut self.refused) {
-            return Err(BodyFault::Io(error));
-        }
-        self.inner.name(number, synced)
-    }
-
-    fn empty(&mut self, slot: u64) {
-        if spend(&mut self.calls_left, &mut self.refused).is_ok() {
-            self.inner.empty(slot);
-        }
+        self.inner.name(number, file)
     }
 
     fn read_at(&mut self, number: u64, at: usize, buf: &mut [u8]) -> Result<usize, BodyFault> {

@@ -5,18 +5,15 @@ ghost use Rattle.bodies.specs.MemoryFiles.{held_in, left_in, named, memory_may_l
 ghost use Rattle.sqlite_disk.specs.Disk.{CountsFault, MoreFaults, Only};
 ghost use Rattle.bodies.specs.Shelf.{IsPiece};
 ghost use Rattle.sqlite_disk.specs.Memory.{memory_bytes};
-ghost use Rattle.std.specs.List.{concat};
-ghost use Rattle.bodies.specs.Body.{bytes_of};
 
 use crate::body::Body;
 use crate::calls::Call;
 use crate::fault::BodyFault;
 use crate::shelf::Shelf;
-use crate::unnamed::{Synced, Unnamed};
 use sqlite_disk::{Disk, Memory};
 use std::alloc::Global;
-use std::io;
-use upload_bytes::{Body as Bytes, Part};
+use std::io::{self, ErrorKind};
+use upload_bytes::{Spool, SyncedFile};
 
 /// Files in memory by their numbers.
 #[derive(Drop)]
@@ -259,34 +256,21 @@ fn copy(bytes: &[u8], at: usize, buf: &mut [u8]) -> usize
     n
 }
 
-/// Puts parts behind the bytes of a body.
-fn put_parts(file: &mut Body<Memory>, parts: &[Part]) -> Result<(), BodyFault>
-    ensures { OnOk result (bytes_of file.new ≡ bytes_of file.old ++ concat parts.now) }
+/// A file that has what a file of a spool has, on the disk. One of a spool on a disk is refused.
+fn copy_of(alloc: Global, file: &SyncedFile) -> Result<Memory, BodyFault>
+    ensures seen { IfOk result (λ copy. memory_bytes copy ≡ file.now) }
+    ensures stored { IfOk result (λ copy. Only file.now (memory_may_leave copy)) }
 {
-    for part in parts {
-        if let Err(fault) = file.append(part.as_slice()) {
-            return Err(fault);
-        }
-    }
-    Ok(())
-}
-
-/// A file that has this body, on the disk.
-fn file_with(alloc: Global, body: &Bytes) -> Result<Memory, BodyFault>
-    ensures seen { IfOk result (λ file. memory_bytes file ≡ body.now) }
-    ensures stored { IfOk result (λ file. Only body.now (memory_may_leave file)) }
-{
-    let mut file = Body::new(0, Memory::new(alloc));
-    let pieces = body.pieces();
-    if let Err(fault) = put_parts(&mut file, pieces.parts.as_slice()) {
+    let Some(bytes) = file.in_memory() else {
+        return Err(BodyFault::Io(ErrorKind::InvalidInput.into()));
+    };
+    let mut copy = Body::new(0, Memory::new(alloc));
+    if let Err(fault) = copy.append(bytes) {
         return Err(fault);
     }
-    if let Err(fault) = file.append(pieces.last.as_slice()) {
-        return Err(fault);
-    }
-    let (file, synced) = file.end();
+    let (copy, synced) = copy.end();
     synced?;
-    Ok(file)
+    Ok(copy)
 }
 
 impl Shelf for MemoryShelf {
@@ -328,23 +312,19 @@ impl Shelf for MemoryShelf {
         Ok(())
     }
 
-    fn make_unnamed(&mut self) -> Result<Unnamed, BodyFault> {
-        Ok(Unnamed::in_memory())
+    fn spool(&self) -> Option<Spool> {
+        Spool::in_memory(self.alloc).ok()
     }
 
-    fn name(&mut self, number: u64, synced: Synced) -> Result<(), BodyFault> {
+    fn name(&mut self, number: u64, file: &SyncedFile) -> Result<(), BodyFault> {
         if find(&self.calls, number).is_some() {
             return Err(BodyFault::Taken);
         }
-        match file_with(self.alloc, synced.body()) {
+        match copy_of(self.alloc, file) {
             Ok(file) => self.note(Call::Closed(number, file))?,
             Err(_) => return Err(BodyFault::Io(self.fail())),
         }
         Ok(())
-    }
-
-    fn empty(&mut self, slot: u64) {
-        let _ = slot;
     }
 
     fn read_at(&mut self, number: u64, at: usize, buf: &mut [u8]) -> Result<usize, BodyFault> {

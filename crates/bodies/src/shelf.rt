@@ -4,16 +4,14 @@ ghost use Rattle.std.specs.Prelude.{Contains, IsSome, IfSome, IfOk, OnOk, OnErr,
 ghost use Rattle.sqlite_disk.specs.Disk.{CountsFault};
 ghost use Rattle.bodies.specs.Shelf.{Keeps, KeepsAll, KeepsOthers, IsPiece, Counts};
 ghost use Rattle.bodies.specs.Files.{IsEmpty};
-ghost use Rattle.bodies.specs.Unnamed.{body_of};
 ghost use Rattle.bodies.specs.declared.fault.BodyFault.TheVariants.{Taken, Missing};
 
 use crate::fault::BodyFault;
 use crate::hint::Hint;
-use crate::unnamed::{Synced, Unnamed};
 use sqlite_disk::Disk;
 use std::alloc::Global;
 use std::io;
-use upload_bytes::Body;
+use upload_bytes::{Body, Spool, SyncedFile};
 
 /// Files by their numbers.
 pub trait Shelf {
@@ -97,19 +95,16 @@ pub trait Shelf {
             result (faults self.old) (faults self.new) }
         ensures clean { IsClean self.new → IsClean self.old };
 
-    /// Makes a file that has no number yet, to be written in any thread. A start finds nothing of it.
-    fn make_unnamed(&mut self) -> Result<Unnamed, BodyFault>
-        ensures same { KeepsAll held may_leave self.old self.new }
-        ensures usable { is_usable self.new ≡ is_usable self.old }
-        ensures faults { Counts ⊥ ⊥ result (faults self.old) (faults self.new) }
-        ensures clean { IsClean self.new → IsClean self.old };
+    /// Where files are made that have no number yet, and are written in any thread. A start finds nothing of them. None
+    /// says that there is no memory.
+    fn spool(&self) -> Option<Spool>;
 
-    /// Gives this number to a file that has none, and a body on the disk. `Taken` says that the number has a file. A crash
-    /// may lose the name until `sync`. At an error there is no such file any more.
-    fn name(&mut self, number: u64, synced: Synced) -> Result<(), BodyFault>
-        ensures held { OnOk result (held self.new number ≡ Some (body_of synced)) }
+    /// Gives this number to a file of its spool. `Taken` says that the number has a file. A crash may lose the name until
+    /// `sync`.
+    fn name(&mut self, number: u64, file: &SyncedFile) -> Result<(), BodyFault>
+        ensures held { OnOk result (held self.new number ≡ Some file.now) }
         ensures left { OnOk result ((left : Option (List ℕ)) → may_leave self.new number left
-            → (left ≡ None) ⊎ (left ≡ Some (body_of synced))) }
+            → (left ≡ None) ⊎ (left ≡ Some file.now)) }
         ensures free { OnOk result (IsClean self.new → held self.old number ≡ None) }
         ensures taken { result ≡ Err Taken → IsClean self.new → IsSome (held self.old number) }
         ensures err { OnErr result (Keeps held may_leave self.old self.new number) }
@@ -117,13 +112,6 @@ pub trait Shelf {
         ensures usable { is_usable self.new ≡ is_usable self.old }
         ensures faults { Counts (IsClean self.new → IsSome (held self.old number)) ⊥
             result (faults self.old) (faults self.new) }
-        ensures clean { IsClean self.new → IsClean self.old };
-
-    /// Removes a file that has no number, by its slot. If that can't be done, the next start does so.
-    fn empty(&mut self, slot: u64)
-        ensures same { KeepsAll held may_leave self.old self.new }
-        ensures usable { is_usable self.new ≡ is_usable self.old }
-        ensures faults { faults self.old ≤ faults self.new }
         ensures clean { IsClean self.new → IsClean self.old };
 
     /// Takes word of the bodies that it will be asked for from now on, in this order. A shelf that reads nothing ahead has

@@ -8,4 +8,4 @@ mod lists;
 #[cfg(test)]
 mod shelves;
 #[cfg(test)]
-mod unnamed;
+mod spooled;

@@ -10,10 +10,13 @@ use Rattle.http_wire.proofs.history.History.TheLaws.TheKnot as history
 use Rattle.crossbeam_channel.proofs.channel.Receiver.TheSendSync as receiver
 use Rattle.upload_names.proofs.name.RepoName.TheSendSync as name
 use Rattle.upload_names.proofs.reference.UploadRef.TheSendSync as reference
+use Rattle.upload_names.proofs.digest.BlobDigest.TheSendSync as digest
+use Rattle.upload_bytes.specs.contracts.body.Body as body
 use Rattle.upload_bytes.specs.contracts.gone.Gone as gone
+use Rattle.upload_bytes.specs.contracts.spool.SyncedFile as file
 use Rattle.upload_service.specs.contracts.ask.GoneChunk as chunk
 use Rattle.upload_service.specs.contracts.ask.Request as request
-use Rattle.upload_service.proofs.ask.Ask.TheSendSync as ask
+use Rattle.upload_service.specs.contracts.ask.Ask as ask
 use Rattle.upload_service.proofs.ask.Extent.TheSendSync as extent
 use Rattle.upload_intake.specs.contracts.message.Message as message
 use Rattle.upload_intake.proofs.message.Wish.TheSendSync as wish
@@ -31,8 +34,38 @@ chunk_sent : IsSend chunk.the_field.row
 chunk_sent =
     search (gone_sent, name.the_send, reference.the_send, extent.the_field_send, sendable) depth 60 fits 20000
 
+file_sent : IsSend file.the_row
+file_sent = search (crossing.crosses, history.crosses, sendable) depth 60 fits 20000
+
+body_sent : IsSend body.the_row
+body_sent = search (file_sent, crossing.crosses, sendable) depth 60 fits 20000
+
+pub ask_sent : IsSend ask.the_row
+ask_sent =
+    search (
+      body_sent,
+      name.the_send,
+      digest.the_send,
+      reference.the_send,
+      extent.the_field_send,
+      crossing.crosses,
+      sendable,
+    ) depth 60 fits 20000
+
+held_sent : IsSend ask.the_field.row
+held_sent =
+    search (
+      body_sent,
+      name.the_send,
+      digest.the_send,
+      reference.the_send,
+      extent.the_field_send,
+      crossing.crosses,
+      sendable,
+    ) depth 60 fits 20000
+
 request_sent : IsSend request.the_field.row
-request_sent = search (chunk_sent, ask.the_field_send, sendable) depth 60 fits 20000
+request_sent = search (chunk_sent, held_sent, sendable) depth 60 fits 20000
 
 message_sent : IsSend message.the_row
 message_sent = search (request_sent, wish.the_field_send, sendable) depth 60 fits 20000

@@ -128,11 +128,6 @@ pub fn make_file<S: Start>(rt: &HostRuntime, path: &str) -> io::Result<FileFrom<
     Ok(Modelled::new(Host::made(file), false, 0))
 }
 
-/// The same as a plain file, which nothing is said of.
-pub fn make_plain(rt: &HostRuntime, path: &str) -> io::Result<fs::File> {
-    above_the_streams(new_file(rt, path)?)
-}
-
 /// Opens the file at a path only to read it, as it stands: nothing is locked, made, synced or written, so it may be
 /// another process's. `S` stands for what the file holds, if nobody writes to it.
 ///

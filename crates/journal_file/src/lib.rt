@@ -12,7 +12,7 @@ mod host;
 mod notes;
 
 pub use fault::OpenFault;
-pub use folder::{Folder, look_at, make_file, make_folder, make_plain, sync_folder};
+pub use folder::{Folder, look_at, make_file, make_folder, sync_folder};
 pub use host::Host;
 pub use notes::Notes;
 pub use sqlite_disk::{Start, Wary};

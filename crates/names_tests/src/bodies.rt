@@ -2,11 +2,12 @@
 
 use crate::digests::{ABC_256, ABC_512, EMPTY_256, EMPTY_512};
 use std::alloc::{AllocError, Global};
+use std::io::ErrorKind;
 use std::process::Abort;
 use std::test::Fail;
 use std::thread::Threads;
 use test_support::content_of;
-use upload_bytes::{Body, BodyBuilder, HashPlace, InPlace, InThreads};
+use upload_bytes::{Body, BodyBuilder, HashPlace, InPlace, InThreads, Spool, Spooling};
 use upload_names::{Algorithm, BlobDigest};
 
 /// By what a body may be hashed as it comes.
@@ -180,6 +181,42 @@ fn check_body<R: Threads + Abort>(
         assert!(rt; is_hashed(&here, *hashed, content), "{hashed:?}");
         let beside = read_at(alloc, &InThreads(rt), *hashed, content, step)?;
         assert!(rt; is_hashed(&beside, *hashed, content), "{hashed:?}");
+        let spool = spool_in(alloc)?;
+        let place = Spooling::new(rt, Some(&spool));
+        let filed = read_at(alloc, &place, *hashed, content, step)?;
+        assert!(rt; is_hashed(&filed, *hashed, content), "{hashed:?}");
+        assert!(rt; is_filed(&filed, content), "{hashed:?}");
+    }
+    Ok(())
+}
+
+/// A spool in memory. One growth may be refused.
+fn spool_in(alloc: Global) -> Result<Spool, AllocError> {
+    match Spool::in_memory(alloc) {
+        Err(AllocError) => Spool::in_memory(alloc),
+        Ok(spool) => Ok(spool),
+    }
+}
+
+/// As many bytes as a body has at most that gets no file.
+const MOST_WITHOUT: usize = 65_536;
+
+/// Whether the file of a body has its content, if it could be written, and a short one has none.
+fn is_filed(body: &Body, content: &[u8]) -> bool {
+    match body.file() {
+        Some(Ok(file)) => file.in_memory() == Some(content) && content.len() > MOST_WITHOUT,
+        // A growth was refused.
+        Some(Err(error)) => error.kind() == ErrorKind::OutOfMemory,
+        None => content.len() <= MOST_WITHOUT,
+    }
+}
+
+/// Sizes about that of the shortest body that gets a file.
+#[test]
+fn a_short_body_gets_no_file(rt: HostRuntime) -> Result<(), Fail> {
+    for size in [0, 1, MOST_WITHOUT, MOST_WITHOUT + 1] {
+        let content = content_of(rt.alloc(), size)?;
+        check_body(&rt, rt.alloc(), content.as_slice(), 4_096)?;
     }
     Ok(())
 }

@@ -1,6 +1,7 @@
 -- The pieces of a body.
-use Rattle.std.specs.Prelude.{ℕ, List, Option, ◌≡◌, ◌++◌, length}
+use Rattle.std.specs.Prelude.{ℕ, List, Option, Result, ◌≡◌, ◌++◌, length, IfSome, IfOk}
 use Rattle.std.specs.List.{concat}
+use Rattle.std.specs.declared.io.Error.{Error}
 use Rattle.upload_bytes.specs.declared.hashing.Running.{Running}
 use Rattle.upload_bytes.specs.declared.body.Pieces.{Pieces}
 use Rattle.upload_bytes.specs.declared.body.Behind.{Behind}
@@ -11,8 +12,9 @@ use Rattle.upload_bytes.specs.Fronts.{HoldsBehind}
 abbrev pub bytes_in : Pieces → List ℕ
 bytes_in pieces = concat pieces.parts.items ++ pieces.last
 
--- The hashes that a body carries, and its length, are those of its bytes.
-pub record IsBody (running : Option Running) (hashed : Option Behind) (len : ℕ) (bytes : List ℕ) : Type 0 where
+-- The hashes that a body carries, its file, and its length are those of its bytes.
+pub record IsBody (running : Option Running) (hashed : Option Behind) (written : Option (Result (List ℕ) Error)) (len : ℕ) (bytes : List ℕ) : Type 0 where
   pub carries : HoldsIfCarried running bytes
   pub behind : HoldsBehind hashed bytes
+  pub filed : IfSome written (λ outcome. IfOk outcome (λ file. file ≡ bytes))
   pub counted : len ≡ length bytes

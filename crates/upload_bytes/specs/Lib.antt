@@ -7,3 +7,5 @@ pub mod Segments
 pub mod Prefixes
 pub mod Blobs
 pub mod Uploads
+pub mod SpoolFiles
+pub mod Spools

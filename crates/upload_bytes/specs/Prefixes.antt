@@ -6,6 +6,8 @@ use Rattle.upload_bytes.specs.declared.prefix_hash.PrefixHash.{PrefixHash}
 use Rattle.upload_bytes.specs.Hashing.{StandsBy}
 use Rattle.std.specs.List.{concat}
 use Rattle.upload_bytes.specs.Segments.{Parts}
+use Rattle.upload_bytes.specs.declared.filing.PrefixFile.{PrefixFile}
+use Rattle.upload_bytes.specs.Spools.{HasIfAny}
 
 -- The hash holds a prefix of the segments that stay as they are: as many of them as it says.
 pub record HoldsPrefix (by : By) (settled : List (List ℕ)) (hash : PrefixHash) : Type 0 where
@@ -22,7 +24,9 @@ abbrev pub HoldsIfAny : Option PrefixHash → List (List ℕ) → Type 0
 HoldsIfAny None parts = ⊤
 HoldsIfAny (Some hash) parts = (by : By) × HoldsPrefix by parts hash
 
--- The bytes of a body that is still being read: the hash, if there is one, holds the first ones of its parts.
-pub record IsBuilt (hash : Option PrefixHash) (len : ℕ) (parts : List (List ℕ)) (last : List ℕ) : Type 0 where
+-- The bytes of a body that is still being read: the hash, if there is one, holds the first ones of its parts, and the
+-- file, if there is one, has the first ones.
+pub record IsBuilt (hash : Option PrefixHash) (file : Option PrefixFile) (len : ℕ) (parts : List (List ℕ)) (last : List ℕ) : Type 0 where
   pub holds : HoldsIfAny hash parts
+  pub has : HasIfAny file parts
   pub counted : len ≡ length (concat parts ++ last)

@@ -6,8 +6,10 @@ ghost use Rattle.upload_bytes.specs.Body.{bytes_in, IsBody};
 ghost use Rattle.std.specs.List.{concat};
 ghost use Rattle.upload_bytes.specs.Running.{HoldsIfCarried};
 ghost use Rattle.upload_bytes.specs.Prefixes.{HoldsIfAny};
+ghost use Rattle.upload_bytes.specs.Spools.{HasIfAny};
 ghost use Rattle.upload_bytes.specs.Segments.{whole};
 
+use crate::filing::PrefixFile;
 use crate::front::Front;
 use crate::granted::Granted;
 use crate::hashing::{HashPlace, Running};
@@ -15,10 +17,11 @@ use crate::part::{Part, share_all, take_in};
 use crate::prefix_hash::PrefixHash;
 use crate::room::{Grant, Room};
 use crate::segments::Segments;
+use crate::spool::SyncedFile;
 use sha2::{Digest, Sha256, Sha512};
 use std::alloc::{AllocError, Global};
 use std::marker::Model;
-use std::mem;
+use std::{io, mem};
 use upload_names::{Algorithm, BlobDigest};
 
 /// The pieces of a body: parts that have come whole, and what came behind them.
@@ -45,6 +48,8 @@ pub struct Body {
     running: Option<Running>,
     /// The hash of what an upload had received and all the bytes behind it, if they were hashed so.
     behind: Option<Behind>,
+    /// A file that has all the bytes, if they were written as they came, or why it hasn't.
+    filed: Option<io::Result<SyncedFile>>,
 }
 
 impl Model for Body {
@@ -56,7 +61,7 @@ impl Model for Body {
 
     ghost view = { λ a. bytes_in a.pieces };
 
-    ghost invariant = { λ a. IsBody a.running a.behind a.len (bytes_in a.pieces) };
+    ghost invariant = { λ a. IsBody a.running a.behind a.filed a.len (bytes_in a.pieces) };
 }
 
 impl Body {
@@ -74,19 +79,21 @@ impl Body {
             len,
             running: None,
             behind: None,
+            filed: None,
         }
     }
 
-    /// These pieces, of so many bytes in all, and their hash if there is one.
-    pub(crate) fn carrying(pieces: Pieces, len: usize, running: Option<Running>) -> Body
-        requires { IsBody running None len (bytes_in pieces) }
+    /// These pieces, of so many bytes in all, with neither hash nor file.
+    pub(crate) fn plain(pieces: Pieces, len: usize) -> Body
+        requires { len ≡ length (bytes_in pieces) }
         ensures { result ≡ bytes_in pieces }
     {
         Body {
             pieces,
             len,
-            running,
+            running: None,
             behind: None,
+            filed: None,
         }
     }
 
@@ -100,6 +107,7 @@ impl Body {
             len,
             running,
             behind: _,
+            filed,
         } = self;
         let hash = front.hash().with_parts(pieces.parts.as_slice());
         let hash = hash.with(pieces.last.as_slice());
@@ -108,6 +116,7 @@ impl Body {
             len,
             running,
             behind: Some(Behind { front, hash }),
+            filed,
         }
     }
 
@@ -127,6 +136,18 @@ impl Body {
         ensures { result ≡ length self.now }
     {
         self.len
+    }
+
+    /// The file that has all its bytes, if they were written as they came, or why it hasn't. It goes with the body,
+    /// unless it was moved elsewhere.
+    pub fn file(&self) -> Option<Result<&SyncedFile, &io::Error>>
+        ensures { IfSome result (λ filed. IfOk filed (λ file. file.now ≡ self.now)) }
+    {
+        match &self.filed {
+            Some(Ok(file)) => Some(Ok(file)),
+            Some(Err(error)) => Some(Err(error)),
+            None => None,
+        }
     }
 
     /// Its pieces, in place.
@@ -180,7 +201,7 @@ impl Body {
         *self.pieces.parts.allocator()
     }
 
-    /// The same bytes once more, with no hash. The parts are shared, and only what came behind them is copied: less than
+    /// The same bytes once more, with neither hash nor file. The parts are shared, and only what came behind them is copied: less than
     /// 4 MiB of what a `BodyBuilder` made, and all of what `of` did.
     pub fn share(&self, alloc: Global) -> Result<Body, AllocError>
         ensures { IfOk result (λ body. body ≡ self.now) }
@@ -189,7 +210,7 @@ impl Body {
         let mut last = Vec::with_capacity(alloc, self.pieces.last.len())?;
         last.extend_from_slice(self.pieces.last.as_slice())?;
         let last = Granted::unlimited(last);
-        Ok(Body::carrying(Pieces { parts, last }, self.len, None))
+        Ok(Body::plain(Pieces { parts, last }, self.len))
     }
 
     /// The same bytes, of which this room counts what is in none yet. None says that it has no room for that.
@@ -204,6 +225,7 @@ impl Body {
             len,
             running,
             behind,
+            filed,
         } = self;
         // It covers such parts too, with which the last piece goes.
         let uncounted = uncounted_of(parts.as_slice()).saturating_add(last.len() as u64);
@@ -213,6 +235,7 @@ impl Body {
             len,
             running,
             behind,
+            filed,
         })
     }
 
@@ -265,7 +288,7 @@ fn sha512_of(body: &Body) -> Sha512
 const PART_SIZE: usize = 4_194_240;
 
 /// The bytes of a body as far as they came: the parts that came whole, and what came behind them. If the body is hashed
-/// as it comes, a hash holds the first ones of the parts.
+/// as it comes, a hash holds the first ones of the parts; if it is written as it comes, a file has the first ones too.
 #[derive(Drop)]
 pub struct BodyBuilder {
     alloc: Global,
@@ -274,6 +297,7 @@ pub struct BodyBuilder {
     /// How many bytes there are in all.
     size: usize,
     hash: Option<PrefixHash>,
+    file: Option<PrefixFile>,
     /// What its whole parts are granted of, if there is a limit.
     room: Option<Room>,
 }
@@ -288,7 +312,7 @@ impl Model for BodyBuilder {
 
     ghost view = { λ a. concat a.parts.items ++ a.last };
 
-    ghost invariant = { λ a. IsBuilt a.hash a.size a.parts.items a.last };
+    ghost invariant = { λ a. IsBuilt a.hash a.file a.size a.parts.items a.last };
 }
 
 impl BodyBuilder {
@@ -321,6 +345,7 @@ impl BodyBuilder {
             last: Granted::none(alloc, Grant::unlimited()),
             size: 0,
             hash,
+            file: None,
             room,
         }
     }
@@ -332,8 +357,8 @@ impl BodyBuilder {
         self.size
     }
 
-    /// Puts a piece behind the bytes. A part that has come whole is hashed at that place, and moves no more. An `Err`
-    /// changes nothing that is seen.
+    /// Puts a piece behind the bytes. A part that has come whole is hashed and written at that place, and moves no more.
+    /// An `Err` changes nothing that is seen.
     pub fn extend<P: HashPlace>(&mut self, place: &P, piece: &[u8]) -> Result<(), AllocError>
         ensures ok { OnOk result (self.new ≡ self.old ++ piece.now) }
         ensures err { OnErr result (self.new ≡ self.old) }
@@ -385,44 +410,43 @@ impl BodyBuilder {
         }
     }
 
-    /// Has the hash take in the parts that it lacks, unless it is away in a thread: what it lacks then is for the next
-    /// thread. Nothing that is seen changes.
+    /// Has the hash and the file take in the parts that they lack, unless a thread is at work: what is lacking then is for
+    /// the next thread. Nothing that is seen changes.
     fn catch_up<P: HashPlace>(&mut self, place: &P)
         ensures { self.new ≡ self.old }
     {
         if let Some(hash) = &mut self.hash {
             let _ = hash.catch_up(place, self.alloc, self.parts.as_slice());
         }
+        let file = self.file.take();
+        self.file = place.write(self.alloc, file, self.parts.as_slice());
     }
 
-    /// The bytes that came, with no hash, so that nobody waits for one. The parts are shared, and only what came behind
-    /// them is copied.
-    pub fn share(&self) -> Result<Body, AllocError>
-        ensures { IfOk result (λ body. body ≡ self.now) }
-    {
-        let parts = share_all(self.alloc, self.parts.as_slice())?;
-        let mut last = Vec::with_capacity(self.alloc, self.last.len())?;
-        last.extend_from_slice(self.last.as_slice())?;
-        let last = Granted::unlimited(last);
-        Ok(Body::carrying(Pieces { parts, last }, self.size, None))
-    }
-
-    /// The body, with the hash of all its bytes if they were hashed. Spare room that is left from growing goes back, if
-    /// the allocator takes it.
+    /// The body, with the hash of all its bytes if they were hashed, and the file that has them if they were written.
+    /// Spare room that is left from growing goes back, if the allocator takes it.
     pub fn finish<P: HashPlace>(self, place: &P) -> Body
         ensures { result ≡ self }
     {
         let BodyBuilder {
+            alloc,
             mut parts,
             mut last,
             size,
             hash,
+            file,
             ..
         } = self;
         parts.shrink_to_fit();
         last.shrink();
         let running = hash_of_all(place, hash, parts.as_slice(), last.as_slice());
-        Body::carrying(Pieces { parts, last }, size, running)
+        let filed = place.put_down(alloc, file, parts.as_slice(), last.as_slice());
+        Body {
+            pieces: Pieces { parts, last },
+            len: size,
+            running,
+            behind: None,
+            filed,
+        }
     }
 }
 

@@ -1,18 +1,21 @@
 //! A hash by either algorithm, which takes parts in here, or in a thread of its own.
-ghost use Rattle.std.specs.Prelude.{◌≡◌, ◌++◌, ℕ, List, IfOk, IfErr, []};
+ghost use Rattle.std.specs.Prelude.{◌≡◌, ◌++◌, ℕ, List, IfOk, IfErr, IfSome, []};
 ghost use Rattle.std.specs.List.{concat};
 ghost use Rattle.upload_names.specs.declared.digest.Algorithm.{Algorithm as By};
 ghost use Rattle.upload_bytes.specs.Running.{HoldsBy};
 ghost use Rattle.upload_bytes.specs.Hashing.{StandsBy};
+ghost use Rattle.upload_bytes.specs.Spools.{HasIfAny};
 
+use crate::filing::PrefixFile;
 use crate::part::{Part, share_all, take_in};
 use crate::segments::size_of;
+use crate::spool::{Spool, SyncedFile};
 use crate::thread_end::ThreadEnd;
 use sha2::{Digest, Sha256, Sha512};
 use std::alloc::{AllocError, Global};
 use std::snapshot::Snapshot;
-use std::thread;
 use std::thread::{Promise, PromisedHandle, Threads};
+use std::{io, thread};
 use upload_names::Algorithm;
 
 /// A hash by either algorithm.
@@ -139,7 +142,7 @@ impl Hashing {
     }
 }
 
-/// Where parts are hashed: here, or in threads.
+/// Where parts are hashed: here, or in threads. Bodies may be written there too, as they come.
 pub trait HashPlace {
     /// The hash, once its thread has ended. An `Err` hands one back whose thread can't be joined here.
     fn join(&self, hash: Hashing) -> Result<Running, Hashing>
@@ -151,6 +154,37 @@ pub trait HashPlace {
     fn take_in(&self, alloc: Global, hash: Running, parts: &[Part]) -> Hashing
         ensures { (by : By) (bytes : List ℕ) → HoldsBy by hash bytes
             → StandsBy by result (bytes ++ concat parts.now) };
+
+    /// Has the file of a body take in the parts that came whole, and makes one if there is none. A place that writes
+    /// nothing has none.
+    fn write(&self, alloc: Global, file: Option<PrefixFile>, parts: &[Part]) -> Option<PrefixFile>
+        requires { HasIfAny file parts.now }
+        ensures { HasIfAny result parts.now }
+    {
+        let _ = alloc;
+        let _ = parts;
+        file
+    }
+
+    /// The file of a body that came whole, with all parts and what came behind them, on the disk; or why it can't be
+    /// written. None if there is none: a short body may stay without.
+    fn put_down(
+        &self,
+        alloc: Global,
+        file: Option<PrefixFile>,
+        parts: &[Part],
+        last: &[u8],
+    ) -> Option<io::Result<SyncedFile>>
+        requires { HasIfAny file parts.now }
+        ensures { IfSome result (λ written.
+            IfOk written (λ file. file ≡ concat parts.now ++ last.now)) }
+    {
+        let _ = alloc;
+        drop(file);
+        let _ = parts;
+        let _ = last;
+        None
+    }
 }
 
 /// Here, at once.
@@ -194,6 +228,56 @@ impl<'a, R: Threads> HashPlace for InThreads<'a, R> {
             Ok(shares) => hash_beside(self.0, alloc, hash, shares),
             Err(AllocError) => Hashing::Here(hash.with_parts(parts)),
         }
+    }
+}
+
+/// In threads, while bodies are written here, into files of a spool if there is one.
+#[derive(Clone, Copy)]
+pub struct Spooling<'a, R: Threads> {
+    rt: &'a R,
+    spool: Option<&'a Spool>,
+}
+
+/// A body of no more bytes gets no file.
+const MOST_WITHOUT: usize = 65_536;
+
+impl<'a, R: Threads> Spooling<'a, R> {
+    /// In threads, and in files of this spool.
+    pub fn new(rt: &'a R, spool: Option<&'a Spool>) -> Spooling<'a, R> {
+        Spooling { rt, spool }
+    }
+}
+
+impl<'a, R: Threads> HashPlace for Spooling<'a, R> {
+    fn join(&self, hash: Hashing) -> Result<Running, Hashing> {
+        InThreads(self.rt).join(hash)
+    }
+
+    fn take_in(&self, alloc: Global, hash: Running, parts: &[Part]) -> Hashing {
+        InThreads(self.rt).take_in(alloc, hash, parts)
+    }
+
+    fn write(&self, alloc: Global, file: Option<PrefixFile>, parts: &[Part]) -> Option<PrefixFile> {
+        let file = match file {
+            Some(file) => file,
+            None => PrefixFile::new(self.spool?.make(alloc)),
+        };
+        Some(file.catch_up(parts))
+    }
+
+    fn put_down(
+        &self,
+        alloc: Global,
+        file: Option<PrefixFile>,
+        parts: &[Part],
+        last: &[u8],
+    ) -> Option<io::Result<SyncedFile>> {
+        let file = match file {
+            Some(file) => file,
+            None if parts.is_empty() && last.len() <= MOST_WITHOUT => return None,
+            None => PrefixFile::new(self.spool?.make(alloc)),
+        };
+        Some(file.finish(parts, last))
     }
 }
 

@@ -1,7 +1,8 @@
 //! The bytes of bodies, of open uploads and of stored blobs, and their hashes.
 //!
 //! A body (`body`) is read into parts (`part`), which have several owners and are never copied, and is hashed as it
-//! comes (`hashing`), in place or in a thread, for whose end others may wait (`thread_end`). What an upload received
+//! comes (`hashing`), in place or in a thread, for whose end others may wait (`thread_end`). It may be written as it
+//! comes too, into a file of a spool (`spool`, `filing`). What an upload received
 //! (`received`) are the parts of its bodies, one after another (`segments`), with hashes that catch up with them
 //! (`prefix_hash`). A body may be hashed behind that (`front`). A blob (`blob`) is kept in the parts that it arrived in,
 //! and is handed out in them (`shared`). What there is no room for is let go as it comes (`gone`). So are the bytes of an
@@ -11,6 +12,7 @@
 mod blob;
 mod body;
 mod digested;
+mod filing;
 mod front;
 mod gone;
 mod granted;
@@ -22,19 +24,22 @@ mod room;
 mod same;
 mod segments;
 mod shared;
+mod spool;
 mod thread_end;
 mod upload;
 
 pub use blob::{Blob, Several};
 pub use body::{Body, BodyBuilder, Pieces};
 pub use digested::Digested;
+pub use filing::PrefixFile;
 pub use front::Front;
 pub use gone::Gone;
 pub use granted::Granted;
-pub use hashing::{HashPlace, InPlace, InThreads};
+pub use hashing::{HashPlace, InPlace, InThreads, Spooling};
 pub use part::Part;
 pub use received::Received;
 pub use room::{Grant, Room};
 pub use shared::BlobBytes;
+pub use spool::{Spool, SpoolFile, SyncedFile};
 pub use thread_end::ThreadEnd;
 pub use upload::Upload;

@@ -1,7 +1,6 @@
 //! What keeps, lent: whoever lent it has it still when the pool has ended, also if it failed.
-use crate::keeping::{Coming, Keeping, NotKept};
-use std::thread::Threads;
-use upload_bytes::ThreadEnd;
+use crate::keeping::{Keeping, NotKept};
+use upload_bytes::Spool;
 use upload_service::{Answer, Ask, Service};
 
 impl<K: Keeping> Keeping for &mut K {
@@ -19,26 +18,12 @@ impl<K: Keeping> Keeping for &mut K {
 
     ghost noted = { λ k. K.noted k.now };
 
-    fn write_ahead<R: Threads>(
-        &mut self,
-        rt: &R,
-        seat: usize,
-        service: &Service,
-        coming: Coming,
-    ) -> Option<ThreadEnd> {
-        (**self).write_ahead(rt, seat, service, coming)
+    fn spool(&self) -> Option<Spool> {
+        (**self).spool()
     }
 
-    fn note<R: Threads>(
-        &mut self,
-        rt: &R,
-        seat: usize,
-        service: &Service,
-        ask: &Ask,
-        secret: [u8; 12],
-        now: u64,
-    ) -> bool {
-        (**self).note(rt, seat, service, ask, secret, now)
+    fn note(&mut self, service: &Service, ask: &Ask, secret: [u8; 12], now: u64) -> bool {
+        (**self).note(service, ask, secret, now)
     }
 
     fn add(&mut self, answer: &Answer) {

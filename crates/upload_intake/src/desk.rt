@@ -2,9 +2,8 @@
 use crate::lent::{Gate, Secrets};
 use crate::seat::Seat;
 use std::sync::Wait;
-use upload_bytes::BodyBuilder;
 use upload_service::{Answer, Ask, GoneChunk};
-use upload_wire::{Desk, HeadAsk, NotAsked};
+use upload_wire::{Desk, NotAsked};
 
 /// A seat that is asked with drawn secrets. It answers None if the seat's call ended `Gone`.
 #[derive(Drop)]
@@ -61,10 +60,6 @@ impl<'a, R: Wait, S: Secrets> Desk for SeatDesk<'a, R, S> {
     ghost moves = { λ old ask answer new.
         AsksWithDrawn S.draws (old.seat, old.secrets) ask answer (new.seat, new.secrets) };
 
-    fn comes(&mut self, ask: &HeadAsk, body: &BodyBuilder) {
-        self.seat.comes(self.rt, ask, body);
-    }
-
     fn ask(&mut self, ask: Ask) -> Option<Answer> {
         let secret = self.secrets.draw();
         self.seat.ask(self.rt, ask, secret).ok()
@@ -93,10 +88,6 @@ impl<'a, R: Wait, S: Secrets, G: Gate> Desk for GatedDesk<'a, R, S, G> {
         (seat_of new.desk, secrets_of new.desk)
         × WatchesOne G.watches (record { gate = old.gate; turn = old.turn }) ask answer
         (record { gate = new.gate; turn = new.turn }) };
-
-    fn comes(&mut self, ask: &HeadAsk, body: &BodyBuilder) {
-        self.desk.comes(ask, body);
-    }
 
     fn ask(&mut self, ask: Ask) -> Option<Answer> {
         self.turn = self.turn.saturating_add(1);

@@ -210,7 +210,7 @@ impl Keeper {
                 self.books.now = self.books.now.max(moments.now());
                 let asked = Snapshot::of(&request);
                 let service = &mut self.books.service;
-                let answer = serve(rt, service, keeping, seat, request, secret, self.books.now);
+                let answer = serve(rt, service, keeping, request, secret, self.books.now);
                 are_typed(&secret, self.books.now, &answer);
                 let entry = Entry {
                     seat,
@@ -225,7 +225,7 @@ impl Keeper {
                 true
             }
             Message::Wish(wish) => {
-                let told = wish.grant(rt, seat, &mut self.books.service, keeping);
+                let told = wish.grant(rt, &mut self.books.service, keeping);
                 // A seat that doesn't hear it is gone.
                 let _ = self.books.lines[seat].ends.send(rt, told);
                 true
@@ -400,7 +400,6 @@ fn serve<R: Threads, K: Keeping>(
     rt: &R,
     service: &mut Service,
     keeping: &mut K,
-    seat: usize,
     request: Request,
     secret: [u8; 12],
     now: u64,
@@ -412,7 +411,7 @@ fn serve<R: Threads, K: Keeping>(
         ++ changed (answered_so (asked (ask_in request) secret now) result ∷ []) }
     ensures last { K.last keeping.new ≡ max (K.last keeping.old) now }
 {
-    let answer = serve_as_it_came(rt, service, keeping, seat, request, secret, now);
+    let answer = serve_as_it_came(rt, service, keeping, request, secret, now);
     if matches!(answer, Answer::NoMemory) || service.is_scarce() {
         service.give_way(&InThreads(rt), now);
     }
@@ -424,7 +423,6 @@ fn serve_as_it_came<R: Threads, K: Keeping>(
     rt: &R,
     service: &mut Service,
     keeping: &mut K,
-    seat: usize,
     request: Request,
     secret: [u8; 12],
     now: u64,
@@ -437,8 +435,8 @@ fn serve_as_it_came<R: Threads, K: Keeping>(
     ensures last { K.last keeping.new ≡ max (K.last keeping.old) now }
 {
     match request {
-        Request::Held(ask) => serve_held(rt, service, keeping, seat, ask, secret, now),
-        Request::Gone(chunk) => turn_away(rt, service, keeping, seat, chunk, secret, now),
+        Request::Held(ask) => serve_held(rt, service, keeping, ask, secret, now),
+        Request::Gone(chunk) => turn_away(service, keeping, chunk, secret, now),
     }
 }
 
@@ -447,7 +445,6 @@ fn serve_held<R: Threads, K: Keeping>(
     rt: &R,
     service: &mut Service,
     keeping: &mut K,
-    seat: usize,
     ask: Ask,
     secret: [u8; 12],
     now: u64,
@@ -459,7 +456,7 @@ fn serve_held<R: Threads, K: Keeping>(
         ++ changed (answered_so (asked ask secret now) result ∷ []) }
     ensures last { K.last keeping.new ≡ max (K.last keeping.old) now }
 {
-    let has_room = keeping.note(rt, seat, service, &ask, secret, now);
+    let has_room = keeping.note(service, &ask, secret, now);
     let answer = step(rt, service, has_room, ask, secret, now);
     add_change(keeping, &answer);
     answer
@@ -467,11 +464,9 @@ fn serve_held<R: Threads, K: Keeping>(
 
 // Answers a chunk whose bytes were let go. It changes nothing, so of it only the moment is noted, as of what asks for the
 // base.
-fn turn_away<R: Threads, K: Keeping>(
-    rt: &R,
+fn turn_away<K: Keeping>(
     service: &Service,
     keeping: &mut K,
-    seat: usize,
     chunk: GoneChunk,
     secret: [u8; 12],
     now: u64,
@@ -483,7 +478,7 @@ fn turn_away<R: Threads, K: Keeping>(
         ++ changed (answered_so (asked (chunk_ask chunk) secret now) result ∷ []) }
     ensures last { K.last keeping.new ≡ max (K.last keeping.old) now }
 {
-    let _ = keeping.note(rt, seat, service, &Ask::Base, secret, now);
+    let _ = keeping.note(service, &Ask::Base, secret, now);
     keeping.let_go();
     service.turn_away(chunk, now)
 }

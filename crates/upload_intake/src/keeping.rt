@@ -5,18 +5,8 @@ ghost use Rattle.upload_service.specs.Machine.{State};
 ghost use Rattle.upload_service.specs.Run.{Exchange};
 ghost use Rattle.upload_intake.specs.Safety.{Asked, asked, answered_so, IsSafe};
 
-use std::thread::Threads;
-use upload_bytes::{Body, ThreadEnd};
-use upload_names::UploadRef;
-use upload_service::{Answer, Ask, Extent, Service};
-
-/// A body that is soon to be asked with, and where.
-#[derive(Drop)]
-pub struct Coming {
-    /// The upload that it goes to, and its range there. None if it is a blob of its own.
-    pub upload: Option<(UploadRef, Extent)>,
-    pub body: Body,
-}
+use upload_bytes::Spool;
+use upload_service::{Answer, Ask, Service};
 
 /// What was added could not be kept.
 #[derive(Clone, Copy, Debug, Drop, PartialEq, Eq)]
@@ -45,35 +35,14 @@ pub trait Keeping {
     // The request that was noted last, if there is room for what is to be kept of it.
     ghost noted: { Self → Option Asked };
 
-    /// Has a thread put a body where it is kept that a seat is soon to ask this service with, and gives the end of the
-    /// thread: whoever asks waits for it, while others are served. None says that there is nothing to wait for. The
-    /// request may be another one then, or none may come.
-    fn write_ahead<R: Threads>(
-        &mut self,
-        rt: &R,
-        seat: usize,
-        service: &Service,
-        coming: Coming,
-    ) -> Option<ThreadEnd>
-        ensures start { start self.new ≡ start self.old }
-        ensures kept { kept self.new ≡ kept self.old }
-        ensures waiting { waiting self.new ≡ waiting self.old }
-        ensures last { last self.new ≡ last self.old }
-        ensures upto { upto self.new ≡ upto self.old };
+    /// Where bodies are written as they come, before the requests that have them are asked. None if they aren't.
+    fn spool(&self) -> Option<Spool>;
 
-    /// Notes a request that this service is about to be asked from a seat, with the secret and the moment of it, and makes
-    /// room for what is to be kept of it if it changes something. Says whether there is room. If there is none, whoever
+    /// Notes a request that this service is about to be asked, with the secret and the moment of it, and makes room for
+    /// what is to be kept of it if it changes something. Says whether there is room. If there is none, whoever
     /// asks has the service change nothing (`Service::step_unchanged`), and the next request may find some. So it may
     /// also say of a request that changes nothing anyway.
-    fn note<R: Threads>(
-        &mut self,
-        rt: &R,
-        seat: usize,
-        service: &Service,
-        ask: &Ask,
-        secret: [u8; 12],
-        now: u64,
-    ) -> bool
+    fn note(&mut self, service: &Service, ask: &Ask, secret: [u8; 12], now: u64) -> bool
         ensures noted { noted self.new ≡ (if result then Some (asked ask.now secret now) else None) }
         ensures start { start self.new ≡ start self.old }
         ensures kept { kept self.new ≡ kept self.old }

@@ -30,7 +30,7 @@ mod work;
 pub use desk::SeatDesk;
 pub use gone::Gone;
 pub use keeper::{Keeper, Served};
-pub use keeping::{Coming, Keeping, NotKept};
+pub use keeping::{Keeping, NotKept};
 pub use laws::{
     conversations_fill_the_seat, served_orders_are_determined, told_is_kept,
     transcripts_tell_connections,

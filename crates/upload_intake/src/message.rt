@@ -1,21 +1,21 @@
 //! What goes from a seat to the keeper, and what a seat is told of its wishes.
 ghost use Rattle.std.specs.Prelude.{◌≡◌};
 
-use crate::keeping::{Coming, Keeping};
+use crate::keeping::Keeping;
 use std::thread::Threads;
-use upload_bytes::{Front, InThreads, ThreadEnd};
+use upload_bytes::{Front, InThreads, Spool, ThreadEnd};
 use upload_names::{Algorithm, UploadRef};
 use upload_service::{Request, Service};
 
-/// What is wished of the hash of a session by an algorithm, since its close is to come, or of a large body.
+/// What is wished of the hash of a session by an algorithm, since its close is to come, or of where bodies are kept.
 #[derive(Drop)]
 pub enum Wish {
     /// That the hash goes on.
     GoesOn(UploadRef, Algorithm),
     /// What the session received, with the hash.
     Front(UploadRef, Algorithm),
-    /// That the body is put where it is kept.
-    Kept(Coming),
+    /// Where bodies are written as they come.
+    Spool,
 }
 
 /// What a seat is told of its wish.
@@ -25,6 +25,8 @@ pub enum Told {
     AtWork(ThreadEnd),
     /// What the session received.
     Front(Front),
+    /// Where bodies are written.
+    Spool(Spool),
     /// There is nothing to wait for, or no such session, or no memory.
     Nothing,
 }
@@ -42,16 +44,10 @@ impl Wish {
     pub(crate) fn grant<R: Threads, K: Keeping>(
         self,
         rt: &R,
-        seat: usize,
         service: &mut Service,
-        keeping: &mut K,
+        keeping: &K,
     ) -> Told
-        ensures service { service.new ≡ service.old }
-        ensures start { K.start keeping.new ≡ K.start keeping.old }
-        ensures kept { K.kept keeping.new ≡ K.kept keeping.old }
-        ensures waiting { K.waiting keeping.new ≡ K.waiting keeping.old }
-        ensures last { K.last keeping.new ≡ K.last keeping.old }
-        ensures upto { K.upto keeping.new ≡ K.upto keeping.old }
+        ensures { service.new ≡ service.old }
     {
         let place = InThreads(rt);
         match self {
@@ -60,7 +56,10 @@ impl Wish {
                 Some(front) => Told::Front(front),
                 None => Told::Nothing,
             },
-            Wish::Kept(coming) => told_of(keeping.write_ahead(rt, seat, service, coming)),
+            Wish::Spool => match keeping.spool() {
+                Some(spool) => Told::Spool(spool),
+                None => Told::Nothing,
+            },
         }
     }
 }

@@ -7,16 +7,14 @@ ghost use Rattle.upload_intake.specs.Kept.{IsJob, IsHeld};
 use crate::ends::{SendEnd, TakeEnd};
 use crate::gone::Gone;
 use crate::heard::Heard;
-use crate::keeping::Coming;
 use crate::line::Item;
 use crate::message::{Message, Told, Wish};
 use crossbeam_channel::Receiver;
 use std::marker::Model;
 use std::sync::Wait;
-use upload_bytes::{Body, BodyBuilder};
+use upload_bytes::{Body, Spool};
 use upload_names::{Algorithm, BlobDigest, RepoName, UploadRef};
 use upload_service::{Answer, Ask, Extent, GoneChunk, Request};
-use upload_wire::HeadAsk;
 
 /// How often a seat waits at most for the hash of an upload before it asks for the close. Twice are enough if nothing
 /// comes meanwhile: for the thread that was at work, and for the one that takes the rest in.
@@ -27,9 +25,6 @@ const MOST_HASHES: u32 = 4;
 
 /// The fewest bytes of a body that the keeper doesn't hash.
 const WORTH_HASHING: u64 = 262_144;
-
-/// The fewest bytes of a body that the keeper doesn't put where they are kept.
-const WORTH_WRITING: usize = 262_144;
 
 /// How many times as fast bytes are compared as hashed, at least.
 const COMPARING: u64 = 16;
@@ -49,9 +44,6 @@ pub(crate) struct Place {
 pub struct Seat {
     place: Place,
     ends: Receiver<Told>,
-    /// What was told of the wish that the next request's body is put where it is kept, if that was wished before it is
-    /// asked.
-    ahead: Option<Told>,
 }
 
 impl Model for Seat {
@@ -142,59 +134,6 @@ fn close_of(ask: Ask) -> Result<(Close, Body), Ask>
     }
 }
 
-// A share of a request's body, if it is large and the request may change something with it.
-fn coming_of(ask: &Ask) -> Option<Coming> {
-    let (upload, body) = match ask {
-        Ask::Single {
-            digest: Some(_),
-            body,
-            ..
-        } => (None, body),
-        Ask::Chunk {
-            at,
-            range,
-            body,
-            ..
-        }
-        | Ask::Close {
-            at,
-            range,
-            digest: Some(_),
-            body,
-            ..
-        } => (Some((*at, *range)), body),
-        _ => return None,
-    };
-    if body.len() < WORTH_WRITING {
-        return None;
-    }
-    let body = body.share(body.alloc()).ok()?;
-    Some(Coming { upload, body })
-}
-
-// The same of a body that came, before its request is asked.
-fn coming_with(ask: &HeadAsk, body: &BodyBuilder) -> Option<Coming> {
-    let upload = match ask {
-        HeadAsk::Single {
-            digest: Some(_),
-            ..
-        } => None,
-        HeadAsk::Chunk { at, range, .. }
-        | HeadAsk::Close {
-            at,
-            range,
-            digest: Some(_),
-            ..
-        } => Some((*at, *range)),
-        _ => return None,
-    };
-    if body.len() < WORTH_WRITING {
-        return None;
-    }
-    let body = body.share().ok()?;
-    Some(Coming { upload, body })
-}
-
 impl Seat {
     ghost use Rattle.std.specs.Prelude.{◌≡◌, [], false};
     ghost use Rattle.crossbeam_channel.specs.Claims.{view as known};
@@ -229,11 +168,7 @@ impl Seat {
             replies,
             gone: false,
         };
-        Seat {
-            place,
-            ends,
-            ahead: None,
-        }
+        Seat { place, ends }
     }
 
     /// Sends a request to the keeper, and waits for the answer. Before a close with a digest it waits for the hash of
@@ -245,42 +180,7 @@ impl Seat {
         ensures { Asks self.old ask secret result self.new }
     {
         let ask = self.prepare(rt, ask);
-        self.write_ahead(rt, &ask);
         self.ask_at_once(rt, ask, secret)
-    }
-
-    /// Has the body of the request that is asked next put where it is kept, if it is large, and waits for nothing: it is
-    /// written while its hash is waited for. Nothing that is seen changes, also if another request is asked.
-    pub fn comes<R: Wait>(&mut self, rt: &R, ask: &HeadAsk, body: &BodyBuilder)
-        ensures { self.new ≡ self.old }
-    {
-        let told = self.wish_kept(rt, coming_with(ask, body));
-        self.ahead = Some(told);
-    }
-
-    // Waits until a large body of a request is put where it is kept, while the keeper serves others. That may have been
-    // wished as it came. Nothing that is seen changes.
-    fn write_ahead<R: Wait>(&mut self, rt: &R, ask: &Ask)
-        ensures { self.new ≡ self.old }
-    {
-        let told = match self.ahead.take() {
-            Some(told) => told,
-            None => self.wish_kept(rt, coming_of(ask)),
-        };
-        if let Told::AtWork(end) = told {
-            end.wait(rt);
-        }
-    }
-
-    // Wishes that a body is put where it is kept, if there is one; of a gone keeper nothing is wished. Nothing that is
-    // seen changes.
-    fn wish_kept<R: Wait>(&mut self, rt: &R, coming: Option<Coming>) -> Told
-        ensures { self.new ≡ self.old }
-    {
-        match coming {
-            Some(coming) if !self.place.gone => self.wish(rt, Wish::Kept(coming)),
-            _ => Told::Nothing,
-        }
     }
 
     // The same request, with all hashed that can be hashed before it is asked.
@@ -364,6 +264,16 @@ impl Seat {
             self.wait_for_hash(rt, at, algorithm);
         }
         body
+    }
+
+    // Where bodies are written as they come, if they are. Nothing that is seen changes.
+    pub(crate) fn spool<R: Wait>(&mut self, rt: &R) -> Option<Spool>
+        ensures { self.new ≡ self.old }
+    {
+        match self.wish(rt, Wish::Spool) {
+            Told::Spool(spool) => Some(spool),
+            _ => None,
+        }
     }
 
     // Wishes something, and hears what comes of it: nothing, if the keeper goes meanwhile. Nothing that is seen changes.

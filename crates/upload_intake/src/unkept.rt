@@ -6,7 +6,7 @@ ghost use Rattle.upload_intake.specs.Pools.ServedPool.{IsServedPool};
 ghost use Rattle.upload_intake.specs.Pools.Working.{lending, means};
 
 use crate::keeper::{Keeper, Served};
-use crate::keeping::{Coming, Keeping, NotKept};
+use crate::keeping::{Keeping, NotKept};
 use crate::lent::{Conns, Gate, Moments, Secrets};
 use crate::log::Entry;
 use crate::pool::{KeptFault, KeptService, Pool, ServeFault, serve_kept};
@@ -16,7 +16,7 @@ use std::alloc::Global;
 use std::snapshot::Snapshot;
 use std::sync::Wait;
 use std::thread::Threads;
-use upload_bytes::ThreadEnd;
+use upload_bytes::Spool;
 use upload_service::{Answer, Ask, Service};
 use upload_wire::Observer;
 
@@ -102,26 +102,12 @@ impl Keeping for NoKeeping {
     ghost noted = { noted_by };
 
     // No body is kept.
-    fn write_ahead<R: Threads>(
-        &mut self,
-        _rt: &R,
-        _seat: usize,
-        _service: &Service,
-        _coming: Coming,
-    ) -> Option<ThreadEnd> {
+    fn spool(&self) -> Option<Spool> {
         None
     }
 
     // There is always room for nothing.
-    fn note<R: Threads>(
-        &mut self,
-        _rt: &R,
-        _seat: usize,
-        _service: &Service,
-        ask: &Ask,
-        secret: [u8; 12],
-        now: u64,
-    ) -> bool {
+    fn note(&mut self, _service: &Service, ask: &Ask, secret: [u8; 12], now: u64) -> bool {
         self.noted = Some(Noted {
             ask: Snapshot::of(ask),
             secret,

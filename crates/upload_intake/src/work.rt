@@ -11,7 +11,7 @@ use crate::seat::{Seat, SeatEnd};
 use std::snapshot::Snapshot;
 use std::sync::Wait;
 use std::thread::{Promise, Threads};
-use upload_bytes::InThreads;
+use upload_bytes::{Spool, Spooling};
 use upload_wire::{ConnEnd, ConnectionServer, Observer};
 
 /// What a worker serves, with which secrets, and who is told of it.
@@ -94,9 +94,10 @@ impl<C: Conns, S: Secrets, G: Gate, O: Observer> Promise<Leaving<C, S, G, O>> fo
 
 /// Serves a worker's connections one after the other, none behind one that ended `DeskGone`, and finishes its seat. One
 /// server serves them all, so that none is turned away for lack of one. A large body is hashed in threads, beside
-/// its reading.
+/// its reading, and written into a file of the spool, if there is one.
 fn serve_seat<R, C, S, G, O>(
     rt: &R,
+    spool: Option<&Spool>,
     seat: Seat,
     worker: Worker<C, S, G, O>,
     mut server: ConnectionServer,
@@ -123,7 +124,7 @@ where
         gate,
         turn: 0,
     };
-    let place = InThreads(rt);
+    let place = Spooling::new(rt, spool);
     let mut end = WorkerEnd { conns: 0, clean: 0 };
     for _ in rt.forever() {
         let Some((mut source, mut sink)) = conns.next_conn() else {
@@ -167,9 +168,10 @@ where
         station result }
 {
     let Station {
-        seat,
+        mut seat,
         worker,
         server,
     } = station;
-    serve_seat(rt, seat, worker, server)
+    let spool = seat.spool(rt);
+    serve_seat(rt, spool.as_ref(), seat, worker, server)
 }

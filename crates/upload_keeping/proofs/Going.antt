@@ -117,22 +117,6 @@ module _ {D S F : Type 0} {g : Ghosts D} {s : shelves.Ghosts S F} {f : Ghosts F}
     clean = clean;
   }
 
-  -- files were read, or made that have no number
-  pub goes_reading : (old new : Store D S F g s f) → journal_of new ≡ journal_of old
-      → ReadsOnly s.held s.may_leave s.IsClean (shelf_of old) (shelf_of new) → Goes old new
-  goes_reading old new same reads = record {
-    safe = λ clean n bytes safe.
-        let keeps = reads.all.each n in
-        record {
-          there = keeps.same ∙ safe.there;
-          stored = λ left may. safe.stored left (keeps.left left may);
-        };
-    clean = λ clean. record {
-      disk = subst (λ (j : Journal D g). IsTrue (g.is_clean (journals.disk_of j))) same clean.disk;
-      shelf = reads.clean clean.shelf;
-    };
-  }
-
   whole_still : (old new : Store D S F g s f) → journal_of new ≡ journal_of old → Goes old new → IsWhole old → IsWhole new
   whole_still old new same goes whole clean =
       let Was : ℕ → Type 0 = HasSafe s.held s.may_leave (shelf_of old) in
@@ -225,19 +209,6 @@ module _ {D S F : Type 0} {g : Ghosts D} {s : shelves.Ghosts S F} {f : Ghosts F}
           let l = k.left failed clean whole file files may in
           record { front = l.front; rest = l.rest; split = l.split; leaves = l.leaves };
     }
-
-    -- threads write other bodies
-    pub kept_writing : (new : Books D S F g s f) → new ≡ record b { writing = new.writing } → AreKept new
-    kept_writing new is =
-        subst AreKept (sym is) (record {
-          begun = k.begun;
-          goes = k.goes;
-          going = λ fine. let go = k.going fine in record { settled = go.settled; awaits = go.awaits };
-          idle = k.idle;
-          left = λ failed clean whole file files may.
-              let l = k.left failed clean whole file files may in
-              record { front = l.front; rest = l.rest; split = l.split; leaves = l.leaves };
-        })
 
     -- its store went on
     module _ (fine : b.fault ≡ None) (store : Store D S F g s f) (goes : Goes b.store store) where

@@ -1,26 +1,21 @@
 //! The books of a keeping: its store, what waits in a batch, and what it kept.
-ghost use Rattle.std.specs.Prelude.{◌≡◌, ◌≤◌, ◌∷◌, ◌++◌, [], max, IsTrue, IfSome, IfOk, Some, None, true, false};
-ghost use Rattle.bodies.specs.Unnamed.{body_of as written_body};
+ghost use Rattle.std.specs.Prelude.{◌≡◌, ◌≤◌, ◌∷◌, ◌++◌, [], max, IsTrue, IfSome, None, true, false};
 ghost use Rattle.upload_intake.specs.Safety.{asked, answered_so};
-ghost use Rattle.upload_keeping.specs.Exchanges.{body_in};
 ghost use Rattle.upload_service.specs.Machine.{empty_state};
 ghost use Rattle.upload_store.specs.Runs.{IsReplayOf, start_of};
 ghost use Rattle.upload_store.specs.Store.{shelf_of, is_open, kept_of, limits_of, IsClean};
 
-use crate::entry::{Drafted, body_of, draft_of, most_of, put_entry};
+use crate::entry::{Drafted, draft_of, most_of, put_entry, unwritten};
 use crate::fault::KeepFault;
 use crate::note::{Note, may_change};
 use crate::noted::Noted;
 use crate::round::{Moments, keep_round, kept_is_on_the_disk};
-use crate::writing::Writing;
-use bodies::{BodyFault, Shelf, Synced, Unwritten};
+use bodies::{BodyFault, Shelf};
 use http_wire::History;
 use journal::Batch;
 use sqlite_disk::Disk;
 use std::alloc::Global;
 use std::snapshot::Snapshot;
-use std::thread::Threads;
-use upload_bytes::{Body, ThreadEnd};
 use upload_journal::Replay;
 use upload_service::{Answer, Ask, Service};
 use upload_store::{Store, StoreFault};
@@ -43,8 +38,6 @@ pub(crate) struct Books<D: Disk, S: Shelf> {
     pub(crate) last: u64,
     /// The moments up to this one are promised.
     pub(crate) upto: u64,
-    /// The bodies that threads write for seats.
-    pub(crate) writing: Vec<Writing>,
     /// Whether something waits.
     pub(crate) waits: bool,
     /// Whether no record of the store was lost as it was opened.
@@ -58,10 +51,6 @@ pub(crate) struct Books<D: Disk, S: Shelf> {
     pub(crate) kept: History<History<Recorded>>,
     pub(crate) waiting: History<Recorded>,
 }
-
-/// A body could not be written.
-#[derive(Clone, Copy, Drop)]
-struct NotWritten;
 
 /// So much room is left in the journal beside what changes: for promises of moments, each of which takes 8 KiB and lasts
 /// a minute, so that a full disk still lets a server answer what changes nothing.
@@ -101,7 +90,6 @@ impl<D: Disk, S: Shelf> Books<D, S> {
             batch: Batch::new(alloc),
             last: moment,
             upto: moment,
-            writing: Vec::new(alloc),
             waits: false,
             is_whole,
             fault: None,
@@ -151,75 +139,6 @@ impl<D: Disk, S: Shelf> Books<D, S> {
         }
     }
 
-    /// Has a thread write a body for a seat, and gives the end of the thread. None if there is nothing to wait for.
-    pub(crate) fn write_ahead<R: Threads>(
-        &mut self,
-        rt: &R,
-        seat: usize,
-        body: Body,
-    ) -> Option<ThreadEnd>
-        ensures kept { AreKept self.old → AreKept self.new }
-        ensures start { start_in self.new ≡ start_in self.old }
-        ensures same { (kept_in self.new ≡ kept_in self.old) × (waiting_in self.new ≡ waiting_in self.old) }
-        ensures last { self.new.last ≡ self.old.last }
-        ensures upto { self.new.upto ≡ self.old.upto }
-    {
-        self.forget(rt, seat);
-        if self.fault.is_some() {
-            return None;
-        }
-        let Ok(unnamed) = self.store.make_unnamed() else {
-            return None;
-        };
-        let (writing, end) = Writing::start(rt, self.alloc, seat, unnamed, body)?;
-        self.writing.push(writing).ok()?;
-        Some(end)
-    }
-
-    /// What came of the body that a thread wrote for a seat, if one did.
-    fn take_written<R: Threads>(&mut self, rt: &R, seat: usize) -> Option<Result<Synced, Unwritten>>
-        ensures kept { AreKept self.old → AreKept self.new }
-        ensures start { start_in self.new ≡ start_in self.old }
-        ensures same { (kept_in self.new ≡ kept_in self.old) × (waiting_in self.new ≡ waiting_in self.old) }
-        ensures last { self.new.last ≡ self.old.last }
-        ensures upto { self.new.upto ≡ self.old.upto }
-    {
-        let at = self
-            .writing
-            .iter()
-            .position(|writing| writing.seat == seat)?;
-        Some(self.writing.swap_remove(at).join(rt))
-    }
-
-    /// Removes a file that has no number, by its slot.
-    fn empty(&mut self, slot: u64)
-        ensures kept { AreKept self.old → AreKept self.new }
-        ensures start { start_in self.new ≡ start_in self.old }
-        ensures same { (kept_in self.new ≡ kept_in self.old) × (waiting_in self.new ≡ waiting_in self.old) }
-        ensures last { self.new.last ≡ self.old.last }
-        ensures upto { self.new.upto ≡ self.old.upto }
-    {
-        if self.fault.is_some() {
-            return;
-        }
-        self.store.empty(slot);
-    }
-
-    /// Lets go of what a thread wrote for a seat, if one did.
-    fn forget<R: Threads>(&mut self, rt: &R, seat: usize)
-        ensures kept { AreKept self.old → AreKept self.new }
-        ensures start { start_in self.new ≡ start_in self.old }
-        ensures same { (kept_in self.new ≡ kept_in self.old) × (waiting_in self.new ≡ waiting_in self.old) }
-        ensures last { self.new.last ≡ self.old.last }
-        ensures upto { self.new.upto ≡ self.old.upto }
-    {
-        match self.take_written(rt, seat) {
-            Some(Ok(synced)) => self.empty(synced.slot()),
-            Some(Err(Unwritten { slot, .. })) => self.empty(slot),
-            None => {}
-        }
-    }
-
     /// Notes a fault, unless it is a want of room.
     fn refuse(&mut self, fault: KeepFault)
         ensures kept { AreKept self.old → AreKept self.new }
@@ -239,50 +158,24 @@ impl<D: Disk, S: Shelf> Books<D, S> {
         self.fault = Some(fault);
     }
 
-    /// The file that a thread has written for a seat, if it has the body of this request. An `Err` says that the body
-    /// could not be written.
-    fn written_of<R: Threads>(
-        &mut self,
-        rt: &R,
-        seat: usize,
-        ask: &Ask,
-    ) -> Result<Option<Synced>, NotWritten>
+    /// Whether the body of a request is written, or can be yet. If it could not be as it came, why is noted, unless that is
+    /// a want of room.
+    fn may_be_written(&mut self, ask: &Ask) -> bool
         ensures kept { AreKept self.old → AreKept self.new }
         ensures start { start_in self.new ≡ start_in self.old }
         ensures same { (kept_in self.new ≡ kept_in self.old) × (waiting_in self.new ≡ waiting_in self.old) }
         ensures last { self.new.last ≡ self.old.last }
         ensures upto { self.new.upto ≡ self.old.upto }
-        ensures body { IfOk result (λ written. IfSome written (λ synced. Some (written_body synced) ≡ body_in ask.now)) }
     {
-        let Some(body) = body_of(ask) else {
-            return Ok(None);
+        let Some(error) = unwritten(ask) else {
+            return true;
         };
-        match self.take_written(rt, seat) {
-            None => Ok(None),
-            Some(Ok(synced)) => {
-                if synced.body().is_same(body) {
-                    return Ok(Some(synced));
-                }
-                self.empty(synced.slot());
-                Ok(None)
-            }
-            Some(Err(Unwritten { slot, error })) => {
-                self.empty(slot);
-                self.refuse(KeepFault::Store(StoreFault::Body(BodyFault::Io(error))));
-                Err(NotWritten)
-            }
-        }
+        self.refuse(KeepFault::Store(StoreFault::Body(BodyFault::Io(error))));
+        false
     }
 
     /// The entry of a request up to its answer. None if there is no room for it.
-    fn draft<R: Threads>(
-        &mut self,
-        rt: &R,
-        seat: usize,
-        ask: &Ask,
-        secret: &[u8; 12],
-        moment: u64,
-    ) -> Option<Drafted<D, S>>
+    fn draft(&mut self, ask: &Ask, secret: &[u8; 12], moment: u64) -> Option<Drafted<D, S>>
         ensures kept { AreKept self.old → AreKept self.new }
         ensures start { start_in self.new ≡ start_in self.old }
         ensures same { (kept_in self.new ≡ kept_in self.old) × (waiting_in self.new ≡ waiting_in self.old) }
@@ -294,13 +187,13 @@ impl<D: Disk, S: Shelf> Books<D, S> {
         if !self.make_room(most_of(ask)) {
             return None;
         }
-        let Ok(written) = self.written_of(rt, seat, ask) else {
+        if !self.may_be_written(ask) {
             return None;
-        };
+        }
         if self.fault.is_some() {
             return None;
         }
-        let drafted = draft_of(self.alloc, &mut self.store, ask, secret, moment, written);
+        let drafted = draft_of(self.alloc, &mut self.store, ask, secret, moment);
         // Each crash leaves what is kept, and this call says so.
         kept_is_on_the_disk(&self.store);
         match drafted {
@@ -317,10 +210,8 @@ impl<D: Disk, S: Shelf> Books<D, S> {
 
     /// Makes ready what is to be kept of a request that this service is about to be asked, as far as it is known before
     /// its answer. None if there is no room for it, or if it changes nothing.
-    pub(crate) fn ready<R: Threads>(
+    pub(crate) fn ready(
         &mut self,
-        rt: &R,
-        seat: usize,
         service: &Service,
         ask: &Ask,
         secret: [u8; 12],
@@ -335,13 +226,9 @@ impl<D: Disk, S: Shelf> Books<D, S> {
         ensures ready { AreKept self.old → IfSome result (IsReady self.new) }
     {
         if !may_change(service, ask) {
-            self.forget(rt, seat);
             return None;
         }
-        let Some(drafted) = self.draft(rt, seat, ask, &secret, moment) else {
-            self.forget(rt, seat);
-            return None;
-        };
+        let drafted = self.draft(ask, &secret, moment)?;
         Some(Noted {
             note: Note::of(ask, secret, moment),
             drafted,

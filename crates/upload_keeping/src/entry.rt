@@ -1,7 +1,5 @@
 //! The entry of a request, up to its answer and then whole.
 ghost use Rattle.std.specs.Prelude.{◌≡◌, ◌++◌, ◌∷◌, [], List, ℕ, OnOk, IfOk, IfSome, option_map, Ok, Some, None, length};
-ghost use Rattle.bodies.specs.Shelf.{KeepsOthers};
-ghost use Rattle.bodies.specs.Unnamed.{body_of as written_body};
 ghost use Rattle.journal.specs.Batch.{batch_records};
 ghost use Rattle.upload_intake.specs.Safety.{Asked, asked, answered_so};
 ghost use Rattle.upload_journal.specs.declared.entries.Entry.TheVariants.{MomentsUpTo};
@@ -15,10 +13,11 @@ ghost use Rattle.upload_keeping.specs.Keeping.{Aside, Goes, Holds};
 
 use crate::fault::KeepFault;
 use crate::sound::{answer_is_sound, ask_is_sound, file_is_sound, given_is_sound};
-use bodies::{Shelf, Synced};
+use bodies::Shelf;
 use journal::Batch;
 use sqlite_disk::Disk;
 use std::alloc::{AllocError, Global};
+use std::io;
 use std::snapshot::Snapshot;
 use upload_bytes::Body;
 use upload_journal::{BodyFile, Draft, MOST_HERE};
@@ -44,6 +43,17 @@ pub(crate) fn body_of(ask: &Ask) -> Option<&Body>
         Ask::Chunk { body, .. } => Some(body),
         Ask::Close { body, .. } => Some(body),
         _ => None,
+    }
+}
+
+/// Why the body of a request could not be written as it came, if so.
+pub(crate) fn unwritten(ask: &Ask) -> Option<io::Error> {
+    match body_of(ask)?.file()? {
+        Ok(_) => None,
+        Err(error) => Some(match error.raw_os_error() {
+            Some(code) => io::Error::from_raw_os_error(code),
+            None => error.kind().into(),
+        }),
     }
 }
 
@@ -119,34 +129,8 @@ fn draft_in<D: Disk, S: Shelf>(
     made(Draft::of(alloc, ask, &[file], secret, moment))
 }
 
-/// Puts a body on the disk, in a file of its own: the one that has it already, if there is one.
-fn put_file<D: Disk, S: Shelf>(
-    store: &mut Store<D, S>,
-    body: &Body,
-    written: Option<Synced>,
-) -> Result<BodyFile, StoreFault>
-    requires { IfSome written (λ synced. written_body synced ≡ body.now) }
-    ensures written { IfOk result (λ file. (file.number ≡ next_of store.old)
-        × (file.len ≡ length body.now)
-        × IsSafe S.Shelf.held S.Shelf.may_leave (shelf_of store.new) file.number body.now) }
-    ensures free { IfOk result (λ file. IsClean store.new
-        → S.Shelf.held (shelf_of store.old) file.number ≡ None) }
-    ensures safe { (n : ℕ) (bytes : List ℕ) → S.Shelf.IsClean (shelf_of store.new)
-        → IsSafe S.Shelf.held S.Shelf.may_leave (shelf_of store.old) n bytes
-        → IsSafe S.Shelf.held S.Shelf.may_leave (shelf_of store.new) n bytes }
-    ensures journal { journal_of store.new ≡ journal_of store.old }
-    ensures clean { IsClean store.new → IsClean store.old }
-    ensures others { KeepsOthers S.Shelf.held S.Shelf.may_leave (shelf_of store.old)
-        (shelf_of store.new) (next_of store.old) }
-{
-    match written {
-        Some(synced) => store.put_synced(synced),
-        None => store.put_body(body),
-    }
-}
-
-/// The entry of a request up to its answer. A body of more than 64 KiB is put on the disk, in a file of its own, unless
-/// this file has it already. At an error there is no such file.
+/// The entry of a request up to its answer. A body of more than 64 KiB is put on the disk, in a file of its own. At an
+/// error there is no such file.
 ///
 /// `NoChange` comes for a request that no entry stands for.
 pub(crate) fn draft_of<D: Disk, S: Shelf>(
@@ -155,9 +139,7 @@ pub(crate) fn draft_of<D: Disk, S: Shelf>(
     ask: &Ask,
     secret: &[u8; 12],
     moment: u64,
-    written: Option<Synced>,
 ) -> Result<Drafted<D, S>, KeepFault>
-    requires { IfSome written (λ synced. Some (written_body synced) ≡ body_in ask.now) }
     ensures drafted { IfOk result
         (λ made. IsDrafted (IsSafe S.Shelf.held S.Shelf.may_leave (shelf_of store.new))
         (asked ask.now secret.now moment) made.draft) }
@@ -181,7 +163,7 @@ pub(crate) fn draft_of<D: Disk, S: Shelf>(
     let Some(body) = body_of(ask) else {
         return Err(KeepFault::NoChange);
     };
-    let file = match put_file(store, body, written) {
+    let file = match store.put_body(body) {
         Ok(file) => file,
         Err(fault) => return Err(KeepFault::Store(fault)),
     };

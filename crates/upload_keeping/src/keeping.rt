@@ -6,13 +6,11 @@ ghost use Rattle.upload_keeping.specs.Ready.{IsReady};
 use crate::books::Books;
 use crate::fault::KeepFault;
 use crate::host::KeepingHost;
-use crate::note::may_fit;
 use crate::noted::Noted;
 use bodies::Shelf;
 use sqlite_disk::Disk;
-use std::thread::Threads;
-use upload_bytes::ThreadEnd;
-use upload_intake::{Coming, Keeping, NotKept};
+use upload_bytes::Spool;
+use upload_intake::{Keeping, NotKept};
 use upload_service::{Answer, Ask, Service};
 use upload_store::Store;
 
@@ -93,37 +91,15 @@ impl<D: Disk, S: Shelf, H: KeepingHost> Keeping for StoreKeeping<D, S, H> {
 
     ghost noted = { noted_of };
 
-    /// A body is written if it fits where it goes to. What was noted before is let go of.
-    fn write_ahead<R: Threads>(
-        &mut self,
-        rt: &R,
-        seat: usize,
-        service: &Service,
-        coming: Coming,
-    ) -> Option<ThreadEnd> {
-        self.noted = None;
-        let Coming { upload, body } = coming;
-        if let Some((at, range)) = upload {
-            if !may_fit(service, &at, range) {
-                return None;
-            }
-        }
-        self.books.write_ahead(rt, seat, body)
+    fn spool(&self) -> Option<Spool> {
+        self.books.store.spool()
     }
 
     /// There is no room either for a request that changes nothing, so that nothing is made ready for it.
-    fn note<R: Threads>(
-        &mut self,
-        rt: &R,
-        seat: usize,
-        service: &Service,
-        ask: &Ask,
-        secret: [u8; 12],
-        now: u64,
-    ) -> bool {
+    fn note(&mut self, service: &Service, ask: &Ask, secret: [u8; 12], now: u64) -> bool {
         self.noted = None;
         self.books.see(now);
-        self.noted = self.books.ready(rt, seat, service, ask, secret, now);
+        self.noted = self.books.ready(service, ask, secret, now);
         self.noted.is_some()
     }
 

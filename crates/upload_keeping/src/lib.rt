@@ -24,7 +24,6 @@ mod round;
 mod salvaging;
 mod sound;
 mod told;
-mod writing;
 
 pub use ahead::{open_ahead, salvage_ahead};
 pub use begin::open;

@@ -53,7 +53,7 @@ pub(crate) fn may_change(service: &Service, ask: &Ask) -> bool {
 }
 
 /// Whether a body with this range may go behind what its session received.
-pub(crate) fn may_fit(service: &Service, at: &UploadRef, range: Extent) -> bool {
+fn may_fit(service: &Service, at: &UploadRef, range: Extent) -> bool {
     match (service.next_of(at), range) {
         (Some(_), Extent::Absent) => true,
         (Some(next), Extent::Given(range)) => range.first == next,

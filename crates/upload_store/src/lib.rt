@@ -15,8 +15,8 @@ mod losses;
 mod numbers;
 mod rerun;
 mod rescue;
+mod spooled;
 mod store;
-mod synced;
 
 pub use ahead::most_ahead;
 pub use crash::CrashShelf;

@@ -23,6 +23,7 @@ ghost use Rattle.upload_store.specs.Safe.{IsSafe, AreSafe, AreWritten};
 use crate::losses::{Losses, Salvage};
 use crate::rerun::{Rerun, new_replay};
 use crate::rescue::Rescue;
+use crate::spooled::name_file;
 use crate::{CrashShelf, RefusedRecord, StoreFault};
 use bodies::{Body, BodyFault, Shelf, begin, finish};
 use journal::{Batch, Error, Journal};
@@ -126,7 +127,7 @@ fn fill<S: Shelf>(shelf: &mut S, file: Body<S::File>, body: &Bytes) -> Result<()
 
 /// Writes a body into the file of this number, and puts it on the disk. At an error the file is removed, if it was made
 /// here.
-fn put_file<S: Shelf>(shelf: &mut S, number: u64, body: &Bytes) -> Result<(), BodyFault>
+fn write_file<S: Shelf>(shelf: &mut S, number: u64, body: &Bytes) -> Result<(), BodyFault>
     ensures safe { OnOk result
         (IsSafe S.Shelf.held S.Shelf.may_leave shelf.new number body.now) }
     ensures free { OnOk result (S.Shelf.IsClean shelf.new → S.Shelf.held shelf.old number ≡ None) }
@@ -152,6 +153,27 @@ fn put_file<S: Shelf>(shelf: &mut S, number: u64, body: &Bytes) -> Result<(), Bo
             Err(fault)
         }
     }
+}
+
+/// Has the file of this number have a body, on the disk: the file that it was written into as it came, or a new one.
+fn put_file<S: Shelf>(shelf: &mut S, number: u64, body: &Bytes) -> Result<(), BodyFault>
+    ensures safe { OnOk result
+        (IsSafe S.Shelf.held S.Shelf.may_leave shelf.new number body.now) }
+    ensures free { OnOk result (S.Shelf.IsClean shelf.new → S.Shelf.held shelf.old number ≡ None) }
+    ensures still { (n : ℕ) (bytes : List ℕ) → S.Shelf.IsClean shelf.new
+        → IsSafe S.Shelf.held S.Shelf.may_leave shelf.old n bytes
+        → IsSafe S.Shelf.held S.Shelf.may_leave shelf.new n bytes }
+    ensures others { KeepsOthers S.Shelf.held S.Shelf.may_leave shelf.old shelf.new number }
+    ensures usable { OnOk result (IsTrue (S.Shelf.is_usable shelf.new)) }
+    ensures faults { S.Shelf.faults shelf.old ≤ S.Shelf.faults shelf.new }
+    ensures cause { IfErr result (BodyFails S.Shelf S.File.Disk shelf.old shelf.new number
+        (body.now ∷ [])) }
+    ensures clean { S.Shelf.IsClean shelf.new → S.Shelf.IsClean shelf.old }
+{
+    if let Some(Ok(file)) = body.file() {
+        return name_file(shelf, number, file);
+    }
+    write_file(shelf, number, body)
 }
 
 /// Why a recovery gave up: the record that was refused, if one was, and else what the journal says.
@@ -226,8 +248,9 @@ impl<D: Disk, S: Shelf> Store<D, S> {
         self.next
     }
 
-    /// Writes a body into a file of its own, and puts it on the disk: every crash leaves exactly it, so that an entry
-    /// may name it. The number of the file is used up, also by an error, after which the file is removed if it can be.
+    /// Puts a body on the disk, in a file of its own: every crash leaves exactly it, so that an entry may name it. If it
+    /// was written into the spool as it came (`spool`), that file gets the number. The number is used up, also by an error,
+    /// after which a file that was made here is removed if it can be.
     pub fn put_body(&mut self, body: &Bytes) -> Result<BodyFile, StoreFault>
         ensures written { IfOk result (λ file. (file.number ≡ next_of self.old)
             × (file.len ≡ length body.now)

@@ -13,7 +13,8 @@ use Rattle.upload_wire.specs.Target.{HeadAsks, AsksWhole, extent_of, head_range,
 use Rattle.http_wire.specs.Inner.HeadSpans.{request_spans}
 use Rattle.http_wire.specs.States.{SourceState, InputState, input_state}
 use Rattle.http_wire.specs.Reading.{Gave, Costs}
-use Rattle.http_wire.specs.Inner.BodyFinding.{CutsBody, FindsBody}
+use Rattle.http_wire.specs.Inner.BodyFinding.{CutsBody, FindsBody, TakesBody}
+use Rattle.http_wire.specs.Inner.BodyReading.{MovedNone}
 use Rattle.upload_wire.specs.Inner.RequestReading.{DescribesAll, FindsRequest}
 use Rattle.upload_wire.specs.Told.{HasLine}
 use Rattle.upload_wire.specs.RequestText.{style_of, HasCutBody, FindsNext, ReadsNext}
@@ -31,7 +32,7 @@ use Rattle.http_wire.specs.declared.fault.WireFault.TheVariants as Fault
 use Rattle.upload_wire.specs.declared.request.Described.{Described}
 use Rattle.upload_wire.specs.declared.request.Came.{Came}
 use Rattle.upload_wire.specs.declared.request.Came.TheVariants as cames
-use Rattle.upload_wire.specs.declared.coming.Coming.TheVariants.{Held, Gone}
+use Rattle.upload_service.specs.declared.ask.Request.TheVariants.{Held, Gone}
 use Rattle.upload_wire.specs.Inner.Coming.{came_in, held_in}
 use Rattle.upload_wire.specs.declared.request.Next.{Next}
 use Rattle.upload_wire.specs.declared.request.Next.TheVariants.{Request, Over}
@@ -229,17 +230,22 @@ described max front p d method target range m t r asks is_head keeps framed = re
 
 -- ---- bytes that were let go
 
+-- a body was taken, and no more is said of it
+pub taken_none : (framing : Framing) (old new : InputState) (body : List ℕ) → TakesBody framing old new body
+    → MovedNone old new.source
+taken_none framing old new body taken = record { text = taken.text ++ new.held; gave = taken.gave }
+
 -- what is over as it came, is over
 pub not_over : (came : Result Came WireFault) → ¬ (came ≡ Ok cames.Over) → ¬ (came_in came ≡ Ok Over)
-not_over (Ok (cames.Request ask body style)) h = λ e. cc
+not_over (Ok (cames.Request request style)) h = λ e. cc
 not_over (Ok cames.Over) h = λ e. h refl
 not_over (Ok (cames.Bad why)) h = λ e. cc
 not_over (Err fault) h = λ e. cc
 
 held_found : (max : ℕ) (old new : InputState) (came : Result Came WireFault) → ReadsNext max old new (came_in came)
     → ReadsNext max old new (held_in came)
-held_found max old new (Ok (cames.Request ask (Held body) style)) n = n
-held_found max old new (Ok (cames.Request ask (Gone gone) style)) n =
+held_found max old new (Ok (cames.Request (Held ask) style)) n = n
+held_found max old new (Ok (cames.Request (Gone chunk) style)) n =
     record { given = n.given; gives = n.gives; found = tt }
 held_found max old new (Ok cames.Over) n = n
 held_found max old new (Ok (cames.Bad why)) n = n
@@ -252,8 +258,8 @@ held_next max old new came r is n = subst (λ x. ReadsNext max old new x) (sym i
 
 held_reads : (came : Result Came WireFault) → (held_in came ≡ Err Fault.Read → came ≡ Err Fault.Read)
     × (came ≡ Err Fault.Read → held_in came ≡ Err Fault.Read)
-held_reads (Ok (cames.Request ask (Held body) style)) = (λ e. absurd (cc), λ e. absurd (cc))
-held_reads (Ok (cames.Request ask (Gone gone) style)) = (λ e. absurd (cc), λ e. absurd (cc))
+held_reads (Ok (cames.Request (Held ask) style)) = (λ e. absurd (cc), λ e. absurd (cc))
+held_reads (Ok (cames.Request (Gone chunk) style)) = (λ e. absurd (cc), λ e. absurd (cc))
 held_reads (Ok cames.Over) = (λ e. absurd (cc), λ e. absurd (cc))
 held_reads (Ok (cames.Bad why)) = (λ e. absurd (cc), λ e. absurd (cc))
 held_reads (Err fault) = (λ e. cc, λ e. cc)

@@ -320,7 +320,7 @@ pub fn ask_of(
 
 impl HeadAsk {
     /// The ask with its body. One that carries none drops it, and an opening and a mount refuse it.
-    pub(crate) fn with_body(self, body: Body) -> Ask
+    pub fn with_body(self, body: Body) -> Ask
         ensures { result ≡ with_body self body }
     {
         match self {
@@ -355,7 +355,7 @@ impl HeadAsk {
     }
 
     /// Whether it can be asked without its body (`with_gone`).
-    pub(crate) fn may_lack_body(&self) -> bool {
+    pub fn may_lack_body(&self) -> bool {
         match self {
             HeadAsk::Ready(_) | HeadAsk::IfBodiless(_) | HeadAsk::Chunk { .. } => true,
             HeadAsk::Single { .. } | HeadAsk::Close { .. } => false,
@@ -363,7 +363,7 @@ impl HeadAsk {
     }
 
     /// The ask with a body that was let go. `None`: it can't be asked so, since its digest is that of the body.
-    pub(crate) fn with_gone(self, gone: Gone) -> Option<Request>
+    pub fn with_gone(self, gone: Gone) -> Option<Request>
         ensures { IfSome result (λ request. ask_in request ≡ with_body self gone) }
     {
         match self {
@@ -386,7 +386,7 @@ impl HeadAsk {
     }
 
     /// The ask with what came of its body, which is hashed at a place. `None`: it can't be asked without it.
-    pub(crate) fn with_what_came<P: HashPlace>(self, body: Coming, place: &P) -> Option<Request>
+    pub fn with_what_came<P: HashPlace>(self, body: Coming, place: &P) -> Option<Request>
         ensures { IfSome result (λ request. ask_in request ≡ with_body self (bytes_in body)) }
     {
         match body {
@@ -399,11 +399,7 @@ impl HeadAsk {
     /// By what the body is hashed as it comes: if it is large, and the service may want the hash of just its bytes.
     /// A small body, and one that comes behind others, the service hashes with what is around it; `filled` is an upload
     /// that is known to have bytes. What a chunk will be asked for, its close says; most say SHA-256.
-    pub(crate) fn hash_wanted(
-        &self,
-        framing: Framing,
-        filled: Option<UploadRef>,
-    ) -> Option<Algorithm> {
+    pub fn hash_wanted(&self, framing: Framing, filled: Option<UploadRef>) -> Option<Algorithm> {
         if let Framing::Length(length) = framing {
             if length <= 65_536 {
                 return None;

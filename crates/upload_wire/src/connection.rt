@@ -188,7 +188,7 @@ impl ConnectionServer {
         ensures limit { self.new.max_body ≡ self.old.max_body }
     {
         match self.read_next(place, reader, observer) {
-            Ok(Came::Request { ask, body, style }) => match ask_desk(desk, place, ask, body) {
+            Ok(Came::Request { request, style }) => match ask_desk(desk, request) {
                 Ok(Some(answer)) => {
                     let end = self.reply(writer, &answer, style);
                     tell_reply(observer, &answer, style);

@@ -3,28 +3,13 @@ ghost use Rattle.std.specs.Prelude.{◌≡◌, Option, Some, IsSome, IfOk, IfErr
 ghost use Rattle.upload_service.specs.declared.ask.Ask.{Ask as AskModel};
 ghost use Rattle.upload_service.specs.declared.answer.Answer.{Answer as AnswerModel};
 ghost use Rattle.upload_service.specs.Requests.{ask_in, chunk_ask};
-ghost use Rattle.upload_wire.specs.Target.{with_body};
-ghost use Rattle.upload_wire.specs.Inner.Coming.{bytes_in};
 
-use crate::asks::HeadAsk;
-use crate::coming::Coming;
-use upload_bytes::{BodyBuilder, HashPlace};
 use upload_service::{Answer, Ask, GoneChunk, Request, Service};
 
 /// What answers the requests of a connection, one after another.
 pub trait Desk {
     // How it moves: from a state, by an ask, with an answer or none if it is gone, to a new state.
     ghost moves: { Self → AskModel → Option AnswerModel → Self → Type 0 };
-
-    /// Tells what is asked next, once all bytes of its body have come and before their hash is waited for: so the desk
-    /// may begin with what else has to be done with the body. Another request may follow, or none. Nothing that is seen
-    /// changes.
-    fn comes(&mut self, ask: &HeadAsk, body: &BodyBuilder)
-        ensures { self.new ≡ self.old }
-    {
-        let _ = ask;
-        let _ = body;
-    }
 
     /// The answer, or `None` if the desk is gone.
     fn ask(&mut self, ask: Ask) -> Option<Answer>
@@ -93,36 +78,8 @@ impl Desk for ServiceDesk {
     }
 }
 
-/// Asks a desk what a head asks, with what came of the body, of which the desk is told before its hash is waited for. An
-/// `Err` says that it can't be asked so.
-pub(crate) fn ask_desk<D: Desk, P: HashPlace>(
-    desk: &mut D,
-    place: &P,
-    ask: HeadAsk,
-    body: Coming,
-) -> Result<Option<Answer>, NotAsked>
-    ensures asked { IfOk result (λ answer.
-        D.moves desk.old (with_body ask (bytes_in body)) answer desk.new) }
-    ensures unasked { IfErr result (λ _. desk.new ≡ desk.old) }
-{
-    foretell(desk, &ask, &body);
-    let Some(request) = ask.with_what_came(body, place) else {
-        return Err(NotAsked);
-    };
-    ask_request(desk, request)
-}
-
-/// Tells a desk of a body that is held. Nothing that is seen changes.
-fn foretell<D: Desk>(desk: &mut D, ask: &HeadAsk, body: &Coming)
-    ensures { desk.new ≡ desk.old }
-{
-    if let Coming::Held(body) = body {
-        desk.comes(ask, body);
-    }
-}
-
 /// Asks a desk. An `Err` says that it can't be asked so.
-fn ask_request<D: Desk>(desk: &mut D, request: Request) -> Result<Option<Answer>, NotAsked>
+pub(crate) fn ask_desk<D: Desk>(desk: &mut D, request: Request) -> Result<Option<Answer>, NotAsked>
     ensures asked { IfOk result (λ answer. D.moves desk.old (ask_in request) answer desk.new) }
     ensures unasked { IfErr result (λ _. desk.new ≡ desk.old) }
 {

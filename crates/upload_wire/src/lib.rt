@@ -16,7 +16,6 @@ mod reader;
 mod reply;
 mod request;
 
-pub use asks::HeadAsk;
 pub use connection::{ConnEnd, ConnFault, ConnectionServer, serve_connection};
 pub use desk::{Desk, NotAsked, ServiceDesk};
 pub use laws::{

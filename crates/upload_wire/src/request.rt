@@ -16,9 +16,9 @@ use http_wire::{
     field_named, framing_of, keeps_connection, read_body,
 };
 use std::alloc::{AllocError, Global};
-use upload_bytes::{BodyBuilder, HashPlace, InPlace, Room};
+use upload_bytes::{BodyBuilder, HashPlace, Room};
 use upload_names::{Algorithm, ByteRange, UploadRef};
-use upload_service::{Ask, Extent};
+use upload_service::{Ask, Extent, Request};
 
 /// Which bodies are hashed as they come, and where, and the room that their bytes are granted of, if there is a limit.
 #[derive(Drop)]
@@ -75,27 +75,19 @@ pub enum Next {
 /// What comes next in the input, if the bytes of a chunk may have been let go.
 #[derive(Drop)]
 pub enum Came {
-    /// A request, whose body has come whole. Nobody has waited for its hash.
-    Request {
-        ask: HeadAsk,
-        body: Coming,
-        style: Style,
-    },
+    Request { request: Request, style: Style },
     Over,
     Bad(Bad),
 }
 
-/// The same if nothing of it was let go, or else out of memory. What a body lacks of its hash is hashed here.
+/// The same if nothing of it was let go, or else out of memory.
 pub fn held(came: Result<Came, WireFault>) -> Result<Next, WireFault>
     ensures { result ≡ held_in came }
 {
     match came {
-        Ok(Came::Request { ask, body, style }) => match body {
-            Coming::Held(body) => {
-                let ask = ask.with_body(body.finish(&InPlace));
-                Ok(Next::Request { ask, style })
-            }
-            Coming::Gone(_) => Err(WireFault::NoMemory),
+        Ok(Came::Request { request, style }) => match request {
+            Request::Held(ask) => Ok(Next::Request { ask, style }),
+            Request::Gone(_) => Err(WireFault::NoMemory),
         },
         Ok(Came::Over) => Ok(Next::Over),
         Ok(Came::Bad(bad)) => Ok(Next::Bad(bad)),
@@ -201,8 +193,11 @@ pub(crate) fn read_request<S: ByteSource, P: HashPlace>(
     };
     match read_body(input, &mut incoming, framing)? {
         BodyEnd::Whole => {
-            let Incoming { body, .. } = incoming;
-            Ok(Came::Request { ask, body, style })
+            let Incoming { body, place, .. } = incoming;
+            match ask.with_what_came(body, place) {
+                Some(request) => Ok(Came::Request { request, style }),
+                None => Err(WireFault::NoMemory),
+            }
         }
         BodyEnd::Refused(bad) => Ok(Came::Bad(bad)),
     }

@@ -13,9 +13,9 @@ use std::sync::Wait;
 use std::sync::atomic::{AtomicU64, Ordering};
 use std::test::*;
 use std::thread::Threads;
-use upload_bytes::ThreadEnd;
+use upload_bytes::Spool;
 use upload_intake::{
-    Coming, Gate, Keeping, KeptFault, KeptService, NotKept, Worker, ZeroSecrets, serve_kept,
+    Gate, Keeping, KeptFault, KeptService, NotKept, Worker, ZeroSecrets, serve_kept,
 };
 use upload_service::{Answer, Ask, Service};
 use upload_wire::NoObserver;
@@ -104,25 +104,11 @@ impl<'a> Keeping for Remembers<'a> {
 
     ghost noted = { λ k. option_map (λ r. asked r.ask.value r.secret r.now) k.noted };
 
-    fn write_ahead<R: Threads>(
-        &mut self,
-        _rt: &R,
-        _seat: usize,
-        _service: &Service,
-        _coming: Coming,
-    ) -> Option<ThreadEnd> {
+    fn spool(&self) -> Option<Spool> {
         None
     }
 
-    fn note<R: Threads>(
-        &mut self,
-        _rt: &R,
-        _seat: usize,
-        _service: &Service,
-        ask: &Ask,
-        secret: [u8; 12],
-        now: u64,
-    ) -> bool {
+    fn note(&mut self, _service: &Service, ask: &Ask, secret: [u8; 12], now: u64) -> bool {
         self.noted = Some(Request {
             ask: Snapshot::of(ask),
             secret,

@@ -2,7 +2,8 @@
 use Rattle.std.specs.Prelude.{ℕ, List, Result, Ok, Err}
 use Rattle.http_wire.specs.declared.fault.WireFault.{WireFault}
 use Rattle.http_wire.specs.declared.fault.WireFault.TheVariants as faults
-use Rattle.upload_wire.specs.Target.{with_body}
+use Rattle.upload_service.specs.declared.ask.Request.TheVariants.{Held, Gone}
+use Rattle.upload_service.specs.Requests.{ask_in}
 use Rattle.upload_wire.specs.declared.coming.Coming.{Coming}
 use Rattle.upload_wire.specs.declared.coming.Coming.TheVariants as comings
 use Rattle.upload_wire.specs.declared.request.Came.{Came}
@@ -17,7 +18,7 @@ bytes_in (comings.Gone gone) = gone
 
 -- what came next
 abbrev pub next_in : Came → Next
-next_in (cames.Request ask body style) = nexts.Request (with_body ask (bytes_in body)) style
+next_in (cames.Request request style) = nexts.Request (ask_in request) style
 next_in cames.Over = nexts.Over
 next_in (cames.Bad why) = nexts.Bad why
 
@@ -28,8 +29,8 @@ came_in (Err fault) = Err fault
 
 -- the same, or out of memory if bytes of it were let go
 abbrev pub held_in : Result Came WireFault → Result Next WireFault
-held_in (Ok (cames.Request ask (comings.Held body) style)) = Ok (nexts.Request (with_body ask body) style)
-held_in (Ok (cames.Request ask (comings.Gone gone) style)) = Err faults.NoMemory
+held_in (Ok (cames.Request (Held ask) style)) = Ok (nexts.Request ask style)
+held_in (Ok (cames.Request (Gone chunk) style)) = Err faults.NoMemory
 held_in (Ok cames.Over) = Ok nexts.Over
 held_in (Ok (cames.Bad why)) = Ok (nexts.Bad why)
 held_in (Err fault) = Err fault

@@ -1,4 +1,4 @@
-use Rattle.std.proofs.Common.{◌≡◌, ◌∙◌, ap, subst}
+use Rattle.std.proofs.Common.{◌∙◌, ap, subst}
 use Rattle.bodies.proofs.ahead.AheadShelfShelf.ready.Goals as goal
 
 pub returns-clause-same : goal.returns-clause-same

@@ -1,5 +1,5 @@
-use Rattle.std.proofs.Common.{◌≤◌, ap, subst, sym, ◌∙◌, arith, refl}
-use Rattle.bodies.proofs.Cuts.{cut_none, cut_more}
+use Rattle.std.proofs.Common.{◌∙◌, arith, refl}
+use Rattle.bodies.proofs.Cuts.{cut_more}
 use Rattle.bodies.proofs.Staying.{stays}
 use Rattle.bodies.proofs.memory.MemoryShelf.power_cut.Goals as goal
 

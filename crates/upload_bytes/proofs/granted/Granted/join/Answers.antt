@@ -1,4 +1,4 @@
-use Rattle.std.proofs.Common.{◌+◌, ◌++◌, length, sym, ◌∙◌, ap, subst}
+use Rattle.std.proofs.Common.{◌++◌, length, sym, ◌∙◌, ap, subst}
 use Rattle.std.proofs.lemmas.List.{length-append}
 use Rattle.upload_bytes.specs.Room.{Covers}
 use Rattle.upload_bytes.proofs.granted.Granted.join.Goals as goal

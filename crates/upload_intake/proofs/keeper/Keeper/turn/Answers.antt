@@ -31,7 +31,7 @@ invariant_of-self-in-Job g c =
 pub invariant_of-self-in-Wish : goal.invariant_of-self-in-Wish
 invariant_of-self-in-Wish g c =
     wish_taken _ _ _ _ c.self.invariant _ c.in-Some.ensures.taken _ c.in-Wish.is _
-    c.grant-told.ensures.service
+    c.grant-told.ensures
 
 pub invariant_of-self-in-Finish : goal.invariant_of-self-in-Finish
 invariant_of-self-in-Finish g c =
@@ -161,14 +161,11 @@ returns-in-Job-clause-since g c =
 
 pub returns-in-Wish-clause-follows : goal.returns-in-Wish-clause-follows
 returns-in-Wish-clause-follows g c =
-    let granted = c.grant-told.ensures in
-    follows_still _ _ _ _ _ _ c.args.self.now _ c.requires.follows granted.start
-    (λ i. granted.kept i ++ granted.waiting i) granted.last
+    follows_still _ _ _ _ _ _ c.args.self.now _ c.requires.follows refl refl refl
     (ap (λ (k : KeeperState). k.since) c.self.view_is)
-    (granted.service ∙ ap (λ (k : KeeperState). k.service) c.self.view_is)
+    (c.grant-told.ensures ∙ ap (λ (k : KeeperState). k.service) c.self.view_is)
     (ap (λ (k : KeeperState). k.log) c.self.view_is)
 
 pub returns-in-Wish-clause-since : goal.returns-in-Wish-clause-since
 returns-in-Wish-clause-since g c =
-    let granted = c.grant-told.ensures in
-    kept_none _ _ _ _ (ap (λ (k : KeeperState). k.log) c.self.view_is) (λ i. granted.kept i ++ granted.waiting i)
+    kept_none _ _ _ _ (ap (λ (k : KeeperState). k.log) c.self.view_is) refl

@@ -5,5 +5,5 @@ use Rattle.upload_keeping.proofs.books.Books.ready.Goals as goal
 
 pub returns-clause-ready : goal.returns-clause-ready
 returns-clause-ready g c kept =
-    subst (λ (request : Asked). IsReadyFor c.draft.new.self request c.in-Some.drafted) (sym c.of.ensures)
-    (c.in-Some.ensures.ready kept)
+    subst (λ (request : Asked). IsReadyFor c.draft.new.self request c.in_ok-drafted.drafted) (sym c.of.ensures)
+    (c.in_ok-drafted.ensures.ready kept)
