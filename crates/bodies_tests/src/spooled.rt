@@ -8,7 +8,7 @@ use std::fs;
 use std::process::Abort;
 use std::test::Fail;
 use std::thread::Threads;
-use upload_bytes::{Body, BodyBuilder, Spool, Spooling, SyncedFile};
+use upload_bytes::{Body, BodyBuilder, HashPlace, Spool, Spooling, SyncedFile};
 
 /// As many bytes as a body may have before it is in several parts, and more.
 const LONG: usize = 9_000_000;
@@ -16,15 +16,20 @@ const LONG: usize = 9_000_000;
 /// The fewest bytes of a body that gets a file.
 const FEWEST: usize = 65_537;
 
-/// A body of sevens that is written as it comes, in pieces.
+/// Bytes of a body of sevens, which is written as it comes, in pieces.
+fn begun<P: HashPlace>(alloc: Global, place: &P, len: usize) -> Result<BodyBuilder, Fail> {
+    let content = vec![in alloc; 7u8; len]?;
+    let mut body = BodyBuilder::new(alloc, None);
+    for piece in content.as_slice().chunks(4_096) {
+        body.extend(place, piece)?;
+    }
+    Ok(body)
+}
+
+/// Such a body, once all of it has come.
 fn body_of(rt: &impl Threads, alloc: Global, spool: &Spool, len: usize) -> Result<Body, Fail> {
     let place = Spooling::new(rt, Some(spool));
-    let mut body = BodyBuilder::new(alloc, None);
-    let piece = [7u8; 4096];
-    while body.len() < len {
-        let left = len.saturating_sub(body.len()).min(piece.len());
-        body.extend(&place, &piece[..left])?;
-    }
+    let body = begun(alloc, &place, len)?;
     Ok(body.finish(&place))
 }
 
@@ -107,12 +112,7 @@ fn a_body_that_goes_takes_its_file_with_it(rt: HostRuntime) -> Result<(), Fail> 
 fn a_body_that_is_cut_takes_its_file_with_it(rt: HostRuntime) -> Result<(), Fail> {
     let (_folder, shelf) = new_shelf(&rt, "cut")?;
     let spool = spool_of(&shelf)?;
-    let place = Spooling::new(&rt, Some(&spool));
-    let mut body = BodyBuilder::new(rt.alloc(), None);
-    let piece = [7u8; 4096];
-    while body.len() < LONG {
-        body.extend(&place, &piece)?;
-    }
+    let body = begun(rt.alloc(), &Spooling::new(&rt, Some(&spool)), LONG)?;
     assert_eq!(rt; waiting(&rt, "cut/bodies/new")?, 1);
     drop(body);
     assert_eq!(rt; waiting(&rt, "cut/bodies/new")?, 0);
