@@ -5,7 +5,6 @@ use crate::folders::mode_of;
 use bodies::{AheadShelf, Body, BodyFault, FolderShelf, Hint, Holds, Shelf, begin, finish};
 use journal_file::{Folder, OpenFault, Wary};
 use sqlite_disk::{Fuse, Memory};
-use std::alloc::Global;
 use std::fs;
 use std::test::Fail;
 use upload_names::Algorithm;
@@ -95,19 +94,6 @@ fn a_shelf_is_opened_again(rt: HostRuntime) -> Result<(), Fail> {
 /// As many bytes as a body may have before it is in several parts, and more.
 const LONG: usize = 5_000_000;
 
-/// A hint for each of these numbers.
-fn hints_of(alloc: Global, numbers: &[u64]) -> Result<Vec<Hint>, Fail> {
-    let mut hints = Vec::new(alloc);
-    for number in numbers {
-        hints.push(Hint {
-            number: *number,
-            len: 6,
-            hashed: None,
-        })?;
-    }
-    Ok(hints)
-}
-
 #[test]
 fn bodies_are_read_ahead(rt: HostRuntime) -> Result<(), Fail> {
     let (_folder, mut shelf) = new_shelf(&rt, "ahead")?;
@@ -148,43 +134,6 @@ fn bodies_are_read_ahead(rt: HostRuntime) -> Result<(), Fail> {
     assert_eq!(rt; shelf.read_at(6, 4, &mut back)?, 4);
     assert_eq!(rt; back, *b"hint");
     fs::remove_dir_all(&rt, "ahead")?;
-    Ok(())
-}
-
-/// The length of what is ready of each number, one after another.
-fn all_ready<S: Shelf>(alloc: Global, shelf: &mut S, numbers: &[u64]) -> Result<Vec<usize>, Fail> {
-    let mut lens = Vec::new(alloc);
-    for number in numbers {
-        lens.push(shelf.ready(*number).map_or(0, |body| body.len()))?;
-    }
-    Ok(lens)
-}
-
-/// Hints go in any order, name a body twice, and take the place of others.
-#[test]
-fn bodies_are_read_in_the_order_of_hints(rt: HostRuntime) -> Result<(), Fail> {
-    let (_folder, mut shelf) = new_shelf(&rt, "hinted")?;
-    put(&mut shelf, 3, b"abc", b"")?;
-    put(&mut shelf, 5, b"a", b"bcd")?;
-    put(&mut shelf, 9, b"abcdef", b"")?;
-    let mut shelf = AheadShelf::new(&rt, rt.alloc(), shelf, Vec::new(rt.alloc()), 1_000_000);
-    assert_eq!(rt;
-        all_ready(rt.alloc(), &mut shelf, &[3])?.as_slice(),
-        [0].as_slice()
-    );
-    shelf.take_hints(hints_of(rt.alloc(), &[9, 3, 5, 3])?);
-    let read = all_ready(rt.alloc(), &mut shelf, &[9, 3, 5, 3, 5])?;
-    assert_eq!(rt; read.as_slice(), [6, 3, 4, 3, 0].as_slice());
-    shelf.take_hints(hints_of(rt.alloc(), &[9, 9, 9])?);
-    assert_eq!(rt;
-        all_ready(rt.alloc(), &mut shelf, &[9])?.as_slice(),
-        [6].as_slice()
-    );
-    shelf.take_hints(hints_of(rt.alloc(), &[5, 9])?);
-    // What wasn't asked for is let go.
-    let read = all_ready(rt.alloc(), &mut shelf, &[9, 5])?;
-    assert_eq!(rt; read.as_slice(), [6, 0].as_slice());
-    fs::remove_dir_all(&rt, "hinted")?;
     Ok(())
 }
 
