@@ -7,5 +7,3 @@ mod folders;
 mod lists;
 #[cfg(test)]
 mod shelves;
-#[cfg(test)]
-mod spooled;
