@@ -201,8 +201,8 @@ impl Body {
         *self.pieces.parts.allocator()
     }
 
-    /// The same bytes once more, with neither hash nor file. The parts are shared, and only what came behind them is copied: less than
-    /// 4 MiB of what a `BodyBuilder` made, and all of what `of` did.
+    /// The same bytes once more, with neither hash nor file. The parts are shared, and only what came behind them is
+    /// copied: less than 4 MiB of what a `BodyBuilder` made, and all of what `of` did.
     pub fn share(&self, alloc: Global) -> Result<Body, AllocError>
         ensures { IfOk result (λ body. body ≡ self.now) }
     {
