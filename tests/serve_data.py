@@ -366,6 +366,10 @@ def other_directories(folder):
         equal("the directory that wasn't changed", [pull(server, NAME, sha256(content)) for content in FILLED], FILLED)
 
 
+# when a record that is lost was written
+WRITTEN = re.compile(r"journal: record \d+, written 20\d\d-\d\d-\d\dT\d\d:\d\d:\d\dZ, can't be run again: ")
+
+
 def goes_on(name, path, lost, word):
     """Checks that a damaged directory is served but for the contents that are lost, each of which is named by this word;
     that what is pushed from then on survives a kill; and that a pull never has a wrong byte."""
@@ -376,6 +380,7 @@ def goes_on(name, path, lost, word):
             digests = [sha256(content) for content in lost]
             check(f"{name}: what is lost is named", len(told) == len(lost)
                   and all(word in line and digest in line for line, digest in zip(told, digests)), told)
+            check(f"{name}: when it was written", all(map(WRITTEN.search, told)), told)
             wanted = [content if content in pushed else found for content, found in zip(FILLED, left)]
             equal(f"{name}: what is left", [pull(server, NAME, digest) for digest in map(sha256, FILLED)], wanted)
             kept = [pull(server, NAME, sha256(content)) for content in pushed]

@@ -3,6 +3,7 @@ ghost use Rattle.std.specs.Prelude.{◌≡◌};
 ghost use Rattle.blobd_data.specs.Hints.{hint_on, hint_on_folder, hint_on_journal, hint_on_store};
 
 use crate::fault::DataFault;
+use blobd_shared::TimeOfDay;
 use journal_file::OpenFault;
 use std::fmt;
 use upload_journal::{BodyFault, EntryFault, ReplayFault};
@@ -80,9 +81,9 @@ impl fmt::Display for RecordText {
     fn fmt<W: fmt::Write>(&self, f: &mut fmt::Formatter<W>) -> fmt::Result {
         write!(
             f,
-            "journal: record {}, written {} seconds after 1970, can't be run again: {}",
+            "journal: record {}, written {}, can't be run again: {}",
             self.place,
-            self.time,
+            TimeOfDay(self.time),
             ReplayText(self.fault)
         )
     }

@@ -1,83 +1,8 @@
 //! The time of day as a log shows it.
-ghost use Rattle.std.specs.Prelude.{◌<◌};
-
+use blobd_shared::TimeOfDay;
 use std::alloc::{AllocError, Global};
 use std::rt::Clock;
 use std::time::{SystemTime, UNIX_EPOCH};
-
-const DAY: u64 = 86_400;
-
-/// The first year behind those that have four digits.
-const END_OF_YEARS: u64 = 10_000;
-
-/// How many days the months of a common year have.
-static MONTHS: [u64; 12] = [31, 28, 31, 30, 31, 30, 31, 31, 30, 31, 30, 31];
-
-/// A day of the Gregorian calendar; months and days count from 1.
-struct Date {
-    year: u64,
-    month: usize,
-    day: u64,
-}
-
-fn is_leap(year: u64) -> bool {
-    year % 4 == 0 && (year % 100 != 0 || year % 400 == 0)
-}
-
-fn days_of_year(year: u64) -> u64 {
-    if is_leap(year) { 366 } else { 365 }
-}
-
-/// How many days a month has that counts from 0.
-fn days_of_month(year: u64, month: usize) -> u64
-    requires { month < 12 }
-{
-    if month == 1 && is_leap(year) {
-        29
-    } else {
-        MONTHS[month]
-    }
-}
-
-/// The day that comes so many days behind the first of that year, if it is in it.
-fn date_within(year: u64, days: u64) -> Option<Date> {
-    let mut left = days;
-    for month in 0..12usize {
-        let length = days_of_month(year, month);
-        if left < length {
-            return Some(Date {
-                year,
-                month: month + 1,
-                day: left + 1,
-            });
-        }
-        left -= length;
-    }
-    None
-}
-
-/// The day that comes so many days behind 1970-01-01, up to the year 9999.
-fn date_behind(days: u64) -> Option<Date> {
-    let mut left = days;
-    for year in 1970..END_OF_YEARS {
-        let length = days_of_year(year);
-        if left < length {
-            return date_within(year, left);
-        }
-        left -= length;
-    }
-    None
-}
-
-/// So many seconds behind the start of 1970, as RFC 3339 writes it in UTC: `2026-11-26T18:29:27Z`. Behind the year 9999
-/// it is `-`. An error is out of memory.
-fn time_of_day(alloc: Global, seconds: u64) -> Result<String, AllocError> {
-    let Some(Date { year, month, day }) = date_behind(seconds / DAY) else {
-        return String::from_str(alloc, "-");
-    };
-    let (hour, minute, second) = (seconds % DAY / 3_600, seconds % 3_600 / 60, seconds % 60);
-    format!(in alloc; "{year}-{month:02}-{day:02}T{hour:02}:{minute:02}:{second:02}Z")
-}
 
 /// The seconds since the start of 1970, or 0 if no time can be told.
 fn seconds_of_day<R: Clock>(rt: &R) -> u64 {
@@ -91,5 +16,5 @@ fn seconds_of_day<R: Clock>(rt: &R) -> u64 {
 
 /// The time of day now. An error is out of memory.
 pub(crate) fn time_now<R: Clock>(rt: &R, alloc: Global) -> Result<String, AllocError> {
-    time_of_day(alloc, seconds_of_day(rt))
+    format!(in alloc; "{}", TimeOfDay(seconds_of_day(rt)))
 }
