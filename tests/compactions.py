@@ -134,6 +134,30 @@ def what_stays_and_what_goes(folder):
 
 
 @case()
+def files_that_no_record_names(folder):
+    """A dry run counts them, also with a list, and a compaction removes them."""
+    path = os.path.join(folder, "data")
+    with serving(path) as server, server.client() as client:
+        equal("a blob", client.push(NAME, BLOBS[0][0], 4 * MIB)[-1], 201)
+    for number, size in ((70_001, 1_000), (70_002, 5)):
+        with open(f"{path}/bodies/{number % 256:02x}/{number}", "wb") as file:
+            file.write(bytes(size))
+    with open(f"{path}/bodies/00/other", "wb"):
+        pass
+    keep, was = listed(folder, (NAME, sha256(BLOBS[0][0]))), files(path)
+    for more in ([], [keep]):
+        dry = run("compact", "--dry-run", path, *more)[0]
+        check("a dry run", ", 2 of 3 files, 1005 B of 3.0 MiB in them" in dry, dry)
+    equal("nothing is changed", files(path) == was, True)
+    told, status, more = run("compact", path)
+    equal("a compaction", (status, more), (0, ""))
+    check("it says what went", told.endswith(" 2 files went\n"), told)
+    equal("what is left", bodies(path), 2)
+    with serving(path) as server:
+        equal("the blob", pull(server, NAME, sha256(BLOBS[0][0])), BLOBS[0][0])
+
+
+@case()
 def what_is_refused(folder):
     """A directory that a server has, that is damaged, or that is none is refused with a word, and nothing is changed."""
     path = os.path.join(folder, "data")

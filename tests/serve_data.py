@@ -577,19 +577,35 @@ AT_THE_END = (
 )
 
 
+def goes_for_good(path, told):
+    """How many files a compaction says to remove for good, behind what else is told."""
+    begin = f"blobd: {path}: records are missing, and a compaction makes that final: "
+    last = told.removeprefix(begin)
+    found = re.fullmatch(rf"(\d+) files?, {SIZE}, go that no record names\n", last)
+    return int(found.group(1)) if found else 0 if not told else told
+
+
 def is_looked_at(name, path, told, word):
     """Checks what is told of missing records by those commands that only look at a directory, and that they change
-    nothing."""
+    nothing. Gives how many files a dry run says to go for good."""
     before, wanted, keep = tree(path), told.format(path), f"{path}-keep"
     with open(keep, "w", encoding="ascii") as file:
         file.write(f"{NAME} {sha256(b'')}\n")
-    for words in (["status"], ["status", "--json"], ["compact", "--dry-run"]):
+    for words in (["status"], ["status", "--json"]):
         line, status, more_told = run(*words, path)
         equal(f"{name}: what {words} tells", (status, more_told), (0, wanted))
         if words[-1] == "--json":
             equal(f"{name}: as JSON", json.loads(line).get("missing"), word)
-    equal(f"{name}: compact --dry-run with a list", run("compact", "--dry-run", path, keep)[1:], (0, wanted))
+    going = []
+    for more in ([], [keep]):
+        line, status, more_told = run("compact", "--dry-run", path, *more)
+        equal(f"{name}: what a dry run tells first", (status, more_told[:len(wanted)]), (0, wanted))
+        going.append(goes_for_good(path, more_told[len(wanted):]))
+        if not more:
+            equal(f"{name}: the files of a dry run", int(re.search(r"records, (\d+) of", line).group(1)), going[0])
+    equal(f"{name}: the same with a list", going[1], going[0])
     check(f"{name}: nothing is changed", tree(path) == before)
+    return going[0]
 
 
 def goes_on_without(name, path, contents):
@@ -613,9 +629,11 @@ def goes_on_without(name, path, contents):
             kept = [pull(server, NAME, sha256(content)) for content in [*contents[:there], more]]
             equal(f"{name}: what is there", kept, [*contents[:there], more])
         check(f"{name}: no file is removed", before.items() <= bodies_of(path).items())
-    is_looked_at(f"{name}: behind a start", path, "blobd: " + WENT_ON, "before")
+    going = is_looked_at(f"{name}: behind a start", path, "blobd: " + WENT_ON, "before")
+    was = bodies_of(path)
     told, status, more_told = run("compact", path)
-    equal(f"{name}: a compaction", (status, more_told), (0, ""))
+    equal(f"{name}: a compaction", (status, goes_for_good(path, more_told)), (0, going))
+    equal(f"{name}: the files that went", len(was.keys() - bodies_of(path).keys()), going)
     is_looked_at(f"{name}: behind a compaction", path, "", None)
     with serving(path) as server:
         told = server.told(5)
@@ -658,7 +676,8 @@ def broken_ends(folder):
 
 @case()
 def cut_before_its_first_record(folder):
-    """Bodies whose journal was cut before its first record are left as they are, by each start and by a compaction."""
+    """Bodies whose journal was cut before its first record are left as they are, by each start and by a compaction. Who
+    only looks at it says the same."""
     path = os.path.join(folder, "data")
     with serving(path) as server, server.client() as client:
         equal("a push", client.push(NAME, CONTENTS[-1])[-1], 201)
@@ -666,8 +685,9 @@ def cut_before_its_first_record(folder):
         os.truncate(f"{path}/journal", size)
         for strict in "10":
             is_refused(f"a journal of {size} bytes", path, "its journal is empty", BLOBD_STRICT=strict)
-        told, status, more = run("compact", path)
-        check(f"{size} bytes aren't compacted", (told, status) == REFUSED and "its journal is empty" in more, more)
+        for words in (["compact"], ["compact", "--dry-run"], ["status"], ["status", "--json"]):
+            told, status, more = run(*words, path)
+            check(f"{words} of {size} bytes", (told, status) == REFUSED and "its journal is empty" in more, more)
     shutil.rmtree(f"{path}/bodies")
     os.mkdir(f"{path}/bodies", 0o700)
     with serving(path) as server, server.client() as client:

@@ -2,15 +2,15 @@
 
 use crate::words::Keep;
 use blobd_data::{
-    AnyBodies, CompactingFault, ListFault, Waste, compact_data, foresee_data, hint_on, read_list,
-    read_status, seconds_now, tell_end, weigh_data,
+    AnyBodies, CompactingFault, ListFault, Missing, Waste, compact_data, foresee_data, hint_on,
+    read_list, read_status, seconds_now, tell_end, tell_final, weigh_data,
 };
 use blobd_serve::limits;
 use blobd_shared::{DONE, FAULT, Quantity, REFUSED, print_line};
 use journal_file::Wary;
 use std::io::{self, Write};
 use std::thread::Threads;
-use upload_compact::{Forecast, Leaving, Weight};
+use upload_compact::Leaving;
 
 /// Says why a data directory isn't compacted, and what to do; gives the exit status.
 fn print_fault(rt: &HostRuntime, path: &str, fault: &CompactingFault) -> u8 {
@@ -28,14 +28,18 @@ fn print_no_list(rt: &HostRuntime, list: &str, fault: &ListFault) -> u8 {
     print_line(&mut io::writer(rt), "refused: keep", REFUSED)
 }
 
-/// Tells on standard error if records of a directory are missing, whose journal weighs so much. A server may add to it
-/// meanwhile, so it is looked at again.
-fn tell_its_end(rt: &HostRuntime, path: &str, weight: &Weight) {
-    if weight.looked.is_sure() {
+/// Tells on standard error if records of a directory are missing, of which so much would go, and what goes for good.
+/// A server may add to its journal meanwhile, so it is looked at again.
+fn tell_its_end(rt: &HostRuntime, path: &str, waste: &Waste) {
+    if waste.weight.looked.is_sure() {
         return;
     }
-    if let Ok(status) = read_status(rt, path, limits(), Wary) {
-        tell_end(rt, path, status.missing);
+    let Ok(status) = read_status(rt, path, limits(), Wary) else {
+        return;
+    };
+    tell_end(rt, path, status.missing);
+    if status.missing != Missing::None {
+        tell_final(rt, path, waste.unnamed);
     }
 }
 
@@ -43,7 +47,7 @@ fn tell_its_end(rt: &HostRuntime, path: &str, weight: &Weight) {
 fn print_waste(rt: &HostRuntime, path: &str) -> u8 {
     match weigh_data(rt, path, limits(), Wary) {
         Ok(waste) => {
-            tell_its_end(rt, path, &waste.0);
+            tell_its_end(rt, path, &waste);
             print_line(&mut io::writer(rt), format_args!("would go: {waste}"), DONE)
         }
         Err(fault) => print_fault(rt, path, &fault),
@@ -52,18 +56,18 @@ fn print_waste(rt: &HostRuntime, path: &str) -> u8 {
 
 /// Says which blobs of repositories would go, a line for each, and then how much; gives the exit status.
 fn print_forecast(rt: &HostRuntime, path: &str, leaving: &Leaving) -> u8 {
-    let Forecast { gone, weight } = match foresee_data(rt, path, limits(), Wary, leaving) {
+    let (gone, waste) = match foresee_data(rt, path, limits(), Wary, leaving) {
         Ok(forecast) => forecast,
         Err(fault) => return print_fault(rt, path, &fault),
     };
-    tell_its_end(rt, path, &weight);
+    tell_its_end(rt, path, &waste);
     let mut out = io::writer(rt);
     for (name, digest) in gone.iter() {
         if writeln!(out, "{name} {digest}").is_err() {
             return FAULT;
         }
     }
-    let (waste, gone) = (Waste(weight), Quantity(gone.len() as u64, "blob"));
+    let gone = Quantity(gone.len() as u64, "blob");
     let text = format_args!("would go: {waste}, repositories would give up {gone}");
     print_line(&mut out, text, DONE)
 }

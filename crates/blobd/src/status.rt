@@ -1,5 +1,5 @@
 //! `blobd status`: what a data directory holds.
-use blobd_data::{Missing, Status, read_status, tell_end};
+use blobd_data::{Missing, Status, hint_on, read_status, tell_end};
 use blobd_serve::limits;
 use blobd_shared::{DONE, FAULT, Quantity, WholeHolding, print_line};
 use journal_file::Wary;
@@ -48,7 +48,8 @@ pub fn print_status(rt: &HostRuntime, path: &str, json: bool) -> u8 {
     } = match read_status(rt, path, limits(), Wary) {
         Ok(status) => status,
         Err(fault) => {
-            let _ = eprintln!(rt; "blobd: can't read {path}: {fault}");
+            let hint = hint_on(&fault);
+            let _ = eprintln!(rt; "blobd: can't read {path}: {fault}{hint}");
             return print_line(&mut out, "fault: data", FAULT);
         }
     };

@@ -3,7 +3,9 @@ ghost use Rattle.std.specs.Prelude.{◌≡◌, []};
 ghost use Rattle.upload_service.specs.Machine.{AreLawful};
 
 use crate::fault::DataFault;
+use crate::files::{amount_but, list_files, note_named};
 use crate::line::line_of;
+use crate::loss::tell_final;
 use crate::open::{FRESH, JOURNAL, has_bodies, open_journal, open_shelf, refuse_cut};
 use crate::texts::StoreText;
 use blobd_shared::{ByteCount, Quantity};
@@ -14,8 +16,8 @@ use sqlite_disk::Disk;
 use std::io::{self, ErrorKind};
 use std::thread::Threads;
 use std::{fmt, fs};
-use upload_compact::{CompactFault, Compacted, Leaving, compact, weigh};
-use upload_records::sweep;
+use upload_compact::{CompactFault, Compacted, Leaving, compact};
+use upload_records::{Named, sweep};
 use upload_service::Limits;
 use upload_store::{StoreFault, most_ahead};
 
@@ -166,16 +168,28 @@ fn see_its_end<D: Disk>(journal: &mut Journal<D>) -> Result<(), CompactingFault>
     }
 }
 
-/// Whether a journal marks that records are lost. A new one doesn't: what is asked for now is that their bodies go.
-fn has_mark<D: Disk>(
+/// Whether a journal marks that records are lost. The new one doesn't: what is asked for now is that their bodies go.
+/// That is told before, with the files of the directory at `path` that neither names.
+fn tell_mark<D: Disk, N: Disk>(
     rt: &HostRuntime,
-    journal: &mut Journal<D>,
-    limits: Limits,
+    path: &str,
+    old: &mut Journal<D>,
+    fresh: &mut Journal<N>,
 ) -> Result<bool, CompactingFault> {
-    match weigh(rt.alloc(), journal, limits) {
-        Ok(weight) => Ok(weight.looked.has_mark),
-        Err(error) => Err(CompactingFault::Compact(CompactFault::Old(StoreFault::Journal(error)))),
+    let mut named = Named::new(rt.alloc());
+    match note_named(rt, old, &mut named) {
+        Ok(looked) if looked.has_mark => {}
+        Ok(_) => return Ok(false),
+        Err(fault) => return Err(CompactingFault::Compact(CompactFault::Old(fault))),
     }
+    if let Err(fault) = note_named(rt, fresh, &mut named) {
+        return Err(CompactingFault::Compact(CompactFault::New(fault)));
+    }
+    match list_files(rt, path) {
+        Ok(files) => tell_final(rt, path, amount_but(&files, &named)),
+        Err(fault) => return Err(CompactingFault::Data(DataFault::Bodies(fault))),
+    }
+    Ok(true)
 }
 
 /// Removes the files that no record of a journal names, and says how many.
@@ -198,7 +212,8 @@ fn sweep_by<D: Disk + Drop, S: Shelf + Drop>(
 
 /// Writes the journal of the data directory at `path` anew, for a service with these limits, as the shortest one that
 /// stands for the same service, and removes the files of bodies that it doesn't name. Uploads that are idle go, and so do
-/// the blobs of repositories that needn't stay, if that is said (`Leaving`). No server can have the directory meanwhile. A
+/// the blobs of repositories that needn't stay, if that is said (`Leaving`). If records are missing, standard error
+/// says first that this makes it final. No server can have the directory meanwhile. A
 /// crash at any moment leaves the old journal or the new one, and all that it names. Bodies are read ahead in threads, an
 /// eighth of the memory that the service may hold at most (`most_ahead`).
 ///
@@ -226,6 +241,7 @@ pub fn compact_data<R: Threads, J: Start, N: Start, S: Start, H: Holds>(
     let room = compact_in::<R, J, N, S, H>(
         threads,
         rt,
+        path,
         &lock,
         limits,
         memory,
@@ -243,6 +259,7 @@ pub fn compact_data<R: Threads, J: Start, N: Start, S: Start, H: Holds>(
 fn compact_in<R: Threads, J: Start, N: Start, S: Start, H: Holds>(
     threads: &R,
     rt: &HostRuntime,
+    path: &str,
     folder: &Folder,
     limits: Limits,
     memory: Option<u64>,
@@ -276,7 +293,7 @@ fn compact_in<R: Threads, J: Start, N: Start, S: Start, H: Holds>(
     };
     let Compacted {
         mut old,
-        fresh,
+        mut fresh,
         shelf,
         is_shorter,
         before,
@@ -285,7 +302,7 @@ fn compact_in<R: Threads, J: Start, N: Start, S: Start, H: Holds>(
     } = it;
     let shelf = shelf.into_inner();
     see_its_end(&mut old)?;
-    let takes_place = is_shorter || has_mark(rt, &mut old, limits)?;
+    let takes_place = tell_mark(rt, path, &mut old, &mut fresh)? || is_shorter;
     switch(rt, folder, takes_place)?;
     let (files, after) = if takes_place {
         (sweep_by(rt, fresh, shelf)?, after)

@@ -2,11 +2,13 @@
 //! names. `line` is what the journal begins with, `open` has the folder locked, opened and read, `host` is lent to what
 //! keeps on in it, `progress` tells how far a start has come, `fault` says why a directory can't be used, `loss` what of
 //! it is lost, and `status` what it holds. `compacting` has its journal written anew, `weighing` says how much goes then,
-//! and `worth` has a start do it. `keeping_list` reads what is referred to, by which a compaction leaves out the rest.
+//! by the files that `files` lists too, and `worth` has a start do it. `keeping_list` reads what is referred to, by
+//! which a compaction leaves out the rest.
 #![tactic(auto)]
 
 mod compacting;
 mod fault;
+mod files;
 mod host;
 mod keeping_list;
 mod line;
@@ -23,7 +25,7 @@ pub use fault::DataFault;
 pub use host::{Teller, seconds_now};
 pub use keeping_list::{ListFault, read_list};
 pub use line::line_of;
-pub use loss::{tell_end, tell_losses, tell_missing};
+pub use loss::{tell_end, tell_final, tell_losses, tell_missing};
 pub use open::{AnyBodies, Damaged, Data, Missing, open_data};
 pub use progress::Watch;
 pub use status::{Status, missing_of, read_status};

@@ -1,9 +1,10 @@
 //! What is told of the records that are lost.
 use crate::open::{BODIES, Missing};
 use crate::texts::RecordText;
-use blobd_shared::Quantity;
+use blobd_shared::{ByteCount, Quantity};
 use std::io::{self, Eprint};
 use std::{fmt, fs};
+use upload_compact::Amount;
 use upload_journal::{BodyFault, Entry, KeptAsk, KeptExchange, ReplayFault, Told};
 use upload_store::{Loss, Losses};
 
@@ -121,6 +122,18 @@ pub fn tell_end<R: Eprint>(rt: &R, path: &str, missing: Missing) {
         ),
         Missing::Before => tell_before(rt, path),
     };
+}
+
+/// Tells on standard error, if records of the directory at `path` are missing, which files a compaction removes for
+/// good: these, which no record names.
+pub fn tell_final<R: Eprint>(rt: &R, path: &str, unnamed: Amount) {
+    if unnamed.files == 0 {
+        return;
+    }
+    let (files, bytes) = (Quantity(unnamed.files, "file"), ByteCount(unnamed.in_files));
+    let _ = eprintln!(rt;
+        "blobd: {path}: records are missing, and a compaction makes that final: {files}, {bytes}, go that no record names"
+    );
 }
 
 /// Tells that a start has gone on without records of the directory at `path`.

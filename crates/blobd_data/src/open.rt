@@ -34,7 +34,7 @@ pub(crate) const JOURNAL: &str = "journal";
 pub(crate) const FRESH: &str = "journal.new";
 
 /// A journal that was begun has so many bytes at least: its first line and its first gate have a sector each.
-const BEGUN: usize = 8_192;
+pub(crate) const BEGUN: usize = 8_192;
 
 /// The folder of the bodies, within it.
 pub(crate) const BODIES: &str = "bodies";

@@ -3,8 +3,9 @@ ghost use Rattle.std.specs.Prelude.{◌≡◌};
 ghost use Rattle.blobd_data.specs.Endings.{missing_of};
 
 use crate::fault::DataFault;
+use crate::files::list_files;
 use crate::line::line_of;
-use crate::open::{JOURNAL, Missing};
+use crate::open::{BEGUN, JOURNAL, Missing};
 use journal::{Ending, Journal, Looked};
 use journal_file::{FileFrom, OpenFault, Start, look_at};
 use sqlite_disk::Disk;
@@ -24,6 +25,24 @@ pub struct Status {
     pub missing: Missing,
 }
 
+/// Refuses bodies whose journal was cut before its first record, as a start does.
+fn refuse_cut<D: Disk>(rt: &HostRuntime, path: &str, file: &mut D) -> Result<(), DataFault> {
+    // What can't be used isn't read either.
+    if !file.may_be_used() {
+        return Ok(());
+    }
+    match file.len() {
+        Ok(length) if length < BEGUN => {}
+        Ok(_) => return Ok(()),
+        Err(error) => return Err(DataFault::Journal(OpenFault::from(error))),
+    }
+    match list_files(rt, path) {
+        Ok(files) if files.is_empty() => Ok(()),
+        Ok(_) => Err(DataFault::EmptyJournal),
+        Err(fault) => Err(DataFault::Bodies(fault)),
+    }
+}
+
 /// The journal of the data directory at `path`, of a service with these limits, to be read as it stands, also while a
 /// server has it: nothing is locked or written. Errors are those of `read_status`.
 pub(crate) fn look_at_journal<J: Start>(
@@ -36,7 +55,10 @@ pub(crate) fn look_at_journal<J: Start>(
         return Err(DataFault::Store(StoreFault::Journal(journal::Error::NoMemory)));
     };
     match look_at(rt, name.as_str(), start) {
-        Ok(file) => Ok(Journal::new(file, line_of(limits))),
+        Ok(mut file) => {
+            refuse_cut(rt, path, &mut file)?;
+            Ok(Journal::new(file, line_of(limits)))
+        }
         Err(OpenFault::NotAFolder) => Err(DataFault::Folder(OpenFault::NotAFolder)),
         Err(fault) => Err(DataFault::Journal(fault)),
     }
@@ -76,8 +98,9 @@ fn census_of<D: Disk>(
 /// What the data directory at `path` holds, of a service with these limits. Its journal is read as it stands, also while
 /// a server has it: nothing is locked or written, and no body is read.
 ///
-/// `Journal`: the journal isn't there, or can't be opened. `Store`: it has another format, another version or other
-/// limits, it can't be read, or there is no memory.
+/// `Journal`: the journal isn't there, or can't be opened. `EmptyJournal`: there are bodies, and it was cut before its
+/// first record. `Bodies`: they can't be listed then. `Store`: it has another format, another version or other limits,
+/// it can't be read, or there is no memory.
 pub fn read_status<J: Start>(
     rt: &HostRuntime,
     path: &str,

@@ -5,7 +5,7 @@ ghost use Rattle.blobd_data.specs.Worth.{IsWorth};
 
 use crate::compacting::{CompactingFault, Room, compact_data, is_there};
 use crate::open::FRESH;
-use crate::weighing::{Waste, weigh_data};
+use crate::weighing::weigh_records;
 use bodies::Holds;
 use journal_file::Start;
 use std::thread::Threads;
@@ -57,7 +57,7 @@ pub fn compact_if_worth<R: Threads, L: Start, J: Start, N: Start, S: Start, H: H
     requires lawful { AreLawful limits }
     requires empty { S.Start.db ≡ [] }
 {
-    let Ok(Waste(weight)) = weigh_data(rt, path, limits, looked) else {
+    let Ok(weight) = weigh_records(rt, path, limits, looked) else {
         return Ok(None);
     };
     if !weight.looked.is_sure() || !is_worth(&weight) {
