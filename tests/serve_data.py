@@ -261,6 +261,32 @@ def no_directory(folder):
         is_refused("a folder that may not be written", closed, "no leave to read and write it; give it and all")
 
 
+@case()
+def a_folder_of_something_else(folder):
+    """A folder without a journal is refused if it has what no server makes. `lost+found` is no such thing."""
+    path = os.path.join(folder, "data")
+    os.mkdir(path)
+    for name in ("notes", ".hidden", "lost+found", "journal.new", "bodies"):
+        if name[0] in "n.":
+            with open(f"{path}/{name}", "wb"):
+                pass
+            for strict in "01":
+                cause = "it isn't empty, and has no journal; name a folder that is empty, or isn't there"
+                is_refused(f"a folder with {name}", path, cause, BLOBD_STRICT=strict)
+            os.remove(f"{path}/{name}")
+        elif name == "journal.new":
+            with open(f"{path}/{name}", "wb"):
+                pass
+        else:
+            os.mkdir(f"{path}/{name}", 0o700)
+    with serving(path) as server, server.client() as client:
+        equal("a push", client.push(NAME, b"a")[-1], 201)
+    with open(f"{path}/notes", "wb"):
+        pass
+    with serving(path) as server:
+        equal("what a folder with a journal has beside it doesn't matter", pull(server, NAME, sha256(b"a")), b"a")
+
+
 # the largest blob, as a journal's first line has it, and the limits behind it
 LIMIT = b"".join(limit.to_bytes(8) for limit in (1 << 34, 1 << 31, 1_024, 3_600))
 

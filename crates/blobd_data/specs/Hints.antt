@@ -9,8 +9,8 @@ use Rattle.upload_journal.specs.declared.replay.ReplayFault.TheVariants.{NoMemor
 use Rattle.upload_store.specs.declared.fault.StoreFault.{StoreFault}
 use Rattle.upload_store.specs.declared.fault.StoreFault.TheVariants.{Journal as OfJournal, Record}
 use Rattle.blobd_data.specs.declared.fault.DataFault.{DataFault}
-use Rattle.blobd_data.specs.declared.fault.DataFault.TheVariants.{Folder, Journal, Bodies, NoBodies, NoJournal}
-use Rattle.blobd_data.specs.declared.fault.DataFault.TheVariants.{EmptyJournal, BrokenJournal, Store}
+use Rattle.blobd_data.specs.declared.fault.DataFault.TheVariants.{Folder, Journal, Bodies, NotEmpty, NoBodies}
+use Rattle.blobd_data.specs.declared.fault.DataFault.TheVariants.{NoJournal, EmptyJournal, BrokenJournal, Store}
 
 abbrev pub hint_on_folder : OpenFault → List ℕ
 hint_on_folder Locked = codes "; stop that one first: `fuser` names it"
@@ -39,6 +39,7 @@ abbrev pub hint_on : DataFault → List ℕ
 hint_on (Folder fault) = hint_on_folder fault
 hint_on (Journal fault) = hint_on_folder fault
 hint_on (Bodies fault) = hint_on_folder fault
+hint_on NotEmpty = codes "; name a folder that is empty, or isn't there"
 hint_on NoBodies = codes "; put them back, or move it away and push again"
 hint_on NoJournal = codes "; put that back, or move it away and push again"
 hint_on EmptyJournal = codes "; put that back, or move it away and push again"

@@ -14,6 +14,8 @@ pub enum DataFault {
     Journal(OpenFault),
     /// Its folders of bodies can't be opened or made.
     Bodies(OpenFault),
+    /// It has no journal, and what no server has made.
+    NotEmpty,
     /// It has a journal, and no folder of bodies.
     NoBodies,
     /// It has bodies, and no journal that says what they are.
@@ -52,6 +54,7 @@ impl fmt::Display for DataFault {
             DataFault::Folder(fault) => write!(f, "{fault}"),
             DataFault::Journal(fault) => write!(f, "journal: {fault}"),
             DataFault::Bodies(fault) => write!(f, "bodies: {fault}"),
+            DataFault::NotEmpty => f.write_str("it isn't empty, and has no journal"),
             DataFault::NoBodies => f.write_str("it has a journal, but its bodies are missing"),
             DataFault::NoJournal => f.write_str("it has bodies, but its journal is missing"),
             DataFault::EmptyJournal => f.write_str("it has bodies, but its journal is empty"),

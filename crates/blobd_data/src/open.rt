@@ -39,6 +39,9 @@ pub(crate) const BEGUN: usize = 8_192;
 /// The folder of the bodies, within it.
 pub(crate) const BODIES: &str = "bodies";
 
+/// What a file system has in its own folder.
+const LOST_AND_FOUND: &str = "lost+found";
+
 /// For `main` to name: what is proved over any bodies that a shelf has as it is opened is proved of those that are
 /// there.
 #[derive(Drop)]
@@ -106,6 +109,30 @@ fn lacks_bodies(rt: &HostRuntime, folder: &Folder) -> Result<bool, DataFault> {
     match lacks(rt, folder, BODIES) {
         Ok(lacks) => Ok(lacks),
         Err(fault) => Err(DataFault::Bodies(fault)),
+    }
+}
+
+/// Whether a folder without a journal has what no server has made.
+fn has_others(rt: &HostRuntime, folder: &Folder) -> Result<bool, OpenFault> {
+    if !lacks(rt, folder, JOURNAL)? {
+        return Ok(false);
+    }
+    for entry in fs::read_dir(rt, folder.path_of(rt, ".")?.as_str())? {
+        let entry = entry?;
+        let name = entry.file_name();
+        if name != FRESH && name != BODIES && name != LOST_AND_FOUND {
+            return Ok(true);
+        }
+    }
+    Ok(false)
+}
+
+/// Refuses a folder that is for something else.
+fn refuse_others(rt: &HostRuntime, folder: &Folder) -> Result<(), DataFault> {
+    match has_others(rt, folder) {
+        Ok(false) => Ok(()),
+        Ok(true) => Err(DataFault::NotEmpty),
+        Err(fault) => Err(DataFault::Folder(fault)),
     }
 }
 
@@ -251,6 +278,7 @@ where
     requires empty { S.Start.db ≡ [] }
     ensures { IfOk result (λ found. limits_of found.store ≡ limits) }
 {
+    refuse_others(rt, folder)?;
     let name = match name_of_journal(rt, folder) {
         Ok(name) => name,
         Err(fault) => return Err(DataFault::Journal(fault)),
@@ -333,14 +361,14 @@ fn open_store<R: Threads, J: Start, S: Start, H: Holds, T: KeepingHost + Drop>(
 /// `room` grants, if there is one. The bodies that the journal names are read, and hashed, in threads, which have ended by
 /// then. Which values stand for `J`, `S` and `H` says nothing: what holds of all of them holds of what is there.
 ///
-/// `Folder`, `Journal` and `Bodies` say what can't be opened or made. `NoBodies`: there is a journal, and no folder of
-/// bodies. `NoJournal`: there are bodies, and no journal. `EmptyJournal`: there are bodies, and the journal was cut before its first
-/// record. `Store`: the journal has another format, another version or
-/// other limits, it can't be read, there is no memory for a record, or one can't be run again and `damaged` has the
-/// directory refused for it. `BrokenJournal`: the journal ends as no crash leaves it,
-/// and `damaged` has the directory refused for it: nothing is written. Behind an error no record of the directory is
-/// changed, and no body that one names, and no more than the end of the journal is written, which a crash may have left.
-/// Bodies that no record names are removed first, unless a record or the journal's end is damaged, or was once.
+/// `Folder`, `Journal` and `Bodies` say what can't be opened or made. `NotEmpty`: there is no journal, but something
+/// that no server has made. `NoBodies`: there is a journal, and no folder of bodies. `NoJournal`: there are bodies, and
+/// no journal. `EmptyJournal`: there are bodies, and the journal was cut before its first record. `Store`: the journal
+/// has another format, another version or other limits, it can't be read, there is no memory for a record, or one can't
+/// be run again and `damaged` has the directory refused for it. `BrokenJournal`: the journal ends as no crash leaves
+/// it, and `damaged` has the directory refused for it: nothing is written. Behind an error no record of the directory
+/// is changed, and no body that one names, and no more than the end of the journal is written, which a crash may have
+/// left. Bodies that no record names are removed first, unless a record or the journal's end is damaged, or was once.
 pub fn open_data<R, J: Start, S: Start, H: Holds, T: KeepingHost + Drop>(
     watch: Watch<'_, R>,
     rt: &HostRuntime,

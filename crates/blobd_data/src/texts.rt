@@ -156,6 +156,7 @@ pub fn hint_on(fault: &DataFault) -> &'static str
     match fault {
         DataFault::Folder(fault) | DataFault::Journal(fault) | DataFault::Bodies(fault) =>
             hint_on_folder(fault),
+        DataFault::NotEmpty => "; name a folder that is empty, or isn't there",
         DataFault::NoBodies => "; put them back, or move it away and push again",
         DataFault::NoJournal | DataFault::EmptyJournal =>
             "; put that back, or move it away and push again",
