@@ -4,7 +4,7 @@ use Rattle.std.specs.Borrow.{Bor}
 use Rattle.std.specs.declared.net.socket_addr.SocketAddr.{SocketAddr}
 use Rattle.std.specs.Net.Grammar.{IsSocketText}
 use Rattle.blobd.specs.declared.complaint.Complaint.{Complaint}
-use Rattle.blobd.specs.declared.complaint.Complaint.TheVariants.{Addr, Count, Chunk, Words, Command, NoText}
+use Rattle.blobd.specs.declared.complaint.Complaint.TheVariants.{Addr, Count, Chunk, Dir, Words, Command, NoText}
 use Rattle.blobd.specs.Size.{WritesSize}
 use Rattle.blobd.specs.Words.{IsCount, word_at}
 
@@ -20,6 +20,7 @@ complaint_text Addr = codes "ADDR is an IP address and a port, as 127.0.0.1:5000
 complaint_text Count =
     codes "COUNT is a number from 1 to 1000000; without it each worker takes all connections that come"
 complaint_text Chunk = codes "CHUNK is a number of bytes from 1 to 2147483648, as 64K, 16M or 1G"
+complaint_text Dir = codes "DIR is missing: the data directory of a server, as /var/lib/blobd"
 complaint_text Words = codes "the command has other words: `blobd --help` has an example of each"
 complaint_text Command = codes "no such command: `blobd --help` says which there are"
 complaint_text NoText = codes "a word isn't UTF-8: a FILE of such a name is read as /dev/stdin, with < FILE"

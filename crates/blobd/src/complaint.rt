@@ -14,6 +14,8 @@ pub enum Complaint {
     Count,
     /// The size of a chunk isn't one.
     Chunk,
+    /// The directory is missing.
+    Dir,
     /// There are too few or too many for their command, or others than it has.
     Words,
     /// The first is the name of no command, or there is none.
@@ -31,6 +33,9 @@ pub fn complaint_on(words: &[&str]) -> Complaint
         ["push", addr, ..] if read_addr(addr).is_none() => Complaint::Addr,
         ["serve", _, count] if read_count(count, MOST_CONNECTIONS).is_none() => Complaint::Count,
         ["push", _, _, _, chunk] if read_size(chunk).is_none() => Complaint::Chunk,
+        ["status"] | ["status", "--json"] | ["compact"] | ["compact", "--dry-run"] => {
+            Complaint::Dir
+        }
         ["once", ..] | ["serve", ..] | ["push", ..] | ["status", ..] | ["compact", ..] => {
             Complaint::Words
         }
@@ -48,6 +53,7 @@ pub fn complaint_text(complaint: Complaint) -> &'static str
         Complaint::Count =>
             "COUNT is a number from 1 to 1000000; without it each worker takes all connections that come",
         Complaint::Chunk => "CHUNK is a number of bytes from 1 to 2147483648, as 64K, 16M or 1G",
+        Complaint::Dir => "DIR is missing: the data directory of a server, as /var/lib/blobd",
         Complaint::Words => "the command has other words: `blobd --help` has an example of each",
         Complaint::Command => "no such command: `blobd --help` says which there are",
         Complaint::NoText =>
