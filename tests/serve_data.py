@@ -318,7 +318,8 @@ def changed(path, old, new):
 
 # what a start says that it has
 SIZE = r"\d+(\.\d)? ([KMG]i)?B"
-HOLDS = re.compile(rf"blobd: \d+ blobs?, {SIZE}, \d+ uploads? open; it holds at most {SIZE} \(BLOBD_MEMORY\)\n")
+UNSET = r"three quarters of what it may use, since BLOBD_MEMORY isn't set"
+HOLDS = re.compile(rf"blobd: \d+ blobs?, {SIZE}, \d+ uploads? open; it holds at most {SIZE} \({UNSET}\)\n")
 
 
 def named_losses(server):

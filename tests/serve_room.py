@@ -170,6 +170,15 @@ def wrong_numbers():
 
 
 @case()
+def less_than_a_blob_takes():
+    """A server starts with it, and says so first."""
+    few = "blobd: BLOBD_MEMORY is {}, in which hardly a blob has room: it may be 512M or 8G\n"
+    for value, said in (("8", "8 B"), ("1K", "1.0 KiB"), ("65535", "63.9 KiB"), ("64K", None)):
+        with Server(1, env={"BLOBD_MEMORY": value}, stderr=subprocess.PIPE) as server:
+            equal(f"BLOBD_MEMORY={value}", server.told(0.2), few.format(said) if said else "")
+
+
+@case()
 def smaller_than_a_directory(folder):
     """A directory that holds more than the server may is left as it is, and says so. With more room all is there."""
     chance = random.Random(OPTIONS.seed)
@@ -180,7 +189,7 @@ def smaller_than_a_directory(folder):
         printed, status, told = run("serve", "127.0.0.1:0", env={
             "BLOBD_DATA": path, "BLOBD_MEMORY": "6M", "BLOBD_STRICT": strict})
         equal("what it prints", (printed, status), ("fault: data\n", 3))
-        first = re.match(rf"blobd: can't use {path}: it holds \S+ MiB, BLOBD_MEMORY is 6\.0 MiB: ", told)
+        first = re.match(rf"blobd: can't use {path}: it holds \S+ MiB, a server may hold 6\.0 MiB: ", told)
         check("why, in the first line", first and "no memory for it" in told and told.count("\n") == 1, told)
     with serving(room="16M", BLOBD_DATA=path) as server:
         has_all(server, stored)

@@ -10,7 +10,6 @@ use blobd_serve::{Terms, limits, run_serve, run_serve_kept};
 use blobd_shared::{ByteCount, FAULT, Holding, print_line};
 use journal_file::Wary;
 use std::alloc::{AllocError, Global};
-use std::io;
 use std::io::{Eprint, ErrorKind, Write};
 use std::net::{Net, SocketAddr, TcpListener, TcpStream};
 use std::random::RandomSource;
@@ -18,18 +17,63 @@ use std::rt::Clock;
 use std::sync::Wait;
 use std::thread::Threads;
 use std::time::Instant;
+use std::{fmt, io};
 use upload_bytes::Room;
 use upload_intake::{Keeping, KeptService};
 use upload_service::Counts;
 
-/// Says how much a server may hold, to somebody who looks on; and to everybody if there is no limit.
-fn print_memory<R: Eprint>(rt: &R, memory: Option<u64>, seen: bool) {
-    let _ = match memory {
-        Some(bytes) if seen => {
-            eprintln!(rt;
-                "blobd: it holds at most {} (BLOBD_MEMORY)",
-                ByteCount(bytes)
+/// To whom a server tells of itself.
+#[derive(Clone, Copy)]
+pub struct Told {
+    /// Whether somebody looks on.
+    pub seen: bool,
+    /// Whether the environment says how much the server may hold.
+    pub limited: bool,
+}
+
+/// Below so many bytes hardly a blob has room.
+const SMALL_MEMORY: u64 = 65_536;
+
+/// How much a server may hold, as it is told: `64.0 MiB (BLOBD_MEMORY)`.
+#[derive(Clone, Copy)]
+struct Most {
+    bytes: u64,
+    limited: bool,
+}
+
+impl fmt::Display for Most {
+    fn fmt<W: fmt::Write>(&self, f: &mut fmt::Formatter<W>) -> fmt::Result {
+        let bytes = ByteCount(self.bytes);
+        if self.limited {
+            write!(f, "{bytes} (BLOBD_MEMORY)")
+        } else {
+            write!(
+                f,
+                "{bytes} (three quarters of what it may use, since BLOBD_MEMORY isn't set)"
             )
+        }
+    }
+}
+
+/// Tells everybody if the environment says so little that hardly a blob has room.
+fn print_small<R: Eprint>(rt: &R, memory: Option<u64>, limited: bool) {
+    match memory {
+        Some(bytes) if limited && bytes < SMALL_MEMORY => {
+            let _ = eprintln!(rt;
+                "blobd: BLOBD_MEMORY is {}, in which hardly a blob has room: it may be 512M or 8G",
+                ByteCount(bytes)
+            );
+        }
+        _ => {}
+    }
+}
+
+/// Says how much a server may hold, to somebody who looks on; and to everybody if there is no limit.
+fn print_memory<R: Eprint>(rt: &R, memory: Option<u64>, told: Told) {
+    let _ = match memory {
+        Some(bytes) if told.seen => {
+            let limited = told.limited;
+            eprintln!(rt; "blobd: it holds at most {}", Most { bytes, limited })
         }
         Some(_) => Ok(()),
         None => eprintln!(rt;
@@ -39,12 +83,12 @@ fn print_memory<R: Eprint>(rt: &R, memory: Option<u64>, seen: bool) {
 }
 
 /// Says what a server has, and how much it may hold.
-fn print_holding<R: Eprint>(rt: &R, counts: Counts, memory: Option<u64>) {
+fn print_holding<R: Eprint>(rt: &R, counts: Counts, memory: Option<u64>, limited: bool) {
     let holding = Holding(counts);
     let _ = match memory {
         Some(bytes) => {
-            let most = ByteCount(bytes);
-            eprintln!(rt; "blobd: {holding}; it holds at most {most} (BLOBD_MEMORY)")
+            let most = Most { bytes, limited };
+            eprintln!(rt; "blobd: {holding}; it holds at most {most}")
         }
         None => eprintln!(rt; "blobd: {holding}"),
     };
@@ -81,7 +125,7 @@ fn print_no_data<R: Eprint>(
         Some((holds, may)) => {
             let (holds, may) = (ByteCount(holds), ByteCount(may));
             eprintln!(rt;
-                "blobd: can't use {path}: it holds {holds}, BLOBD_MEMORY is {may}: set that to more; {fault}"
+                "blobd: can't use {path}: it holds {holds}, a server may hold {may}: set BLOBD_MEMORY to more; {fault}"
             )
         }
         None => eprintln!(rt; "blobd: can't use {path}: {fault}{}", hint_on(fault)),
@@ -175,7 +219,7 @@ where
 }
 
 /// Serves what comes to an address, by a new service; gives the exit status.
-pub fn listen<R>(rt: &R, addr: SocketAddr, terms: Terms, seen: bool) -> u8
+pub fn listen<R>(rt: &R, addr: SocketAddr, terms: Terms, told: Told) -> u8
 where
     R: Threads + Wait + Sync + Copy + Send + 'static,
     R: AllocGlobal + Clock + RandomSource + Print + Eprint,
@@ -185,8 +229,9 @@ where
     let mut out = io::writer(rt);
     match bind(rt, addr, &mut out) {
         Ok(listener) => {
-            print_memory(rt, terms.memory, seen);
-            print_stop(rt, None, seen);
+            print_memory(rt, terms.memory, told);
+            print_small(rt, terms.memory, told.limited);
+            print_stop(rt, None, told.seen);
             run_serve(rt, &listener, terms, &mut out)
         }
         Err(status) => status,
@@ -204,7 +249,7 @@ pub fn listen_keeping<'a, R>(
     terms: Terms,
     path: &'a str,
     damaged: Damaged,
-    seen: bool,
+    told: Told,
 ) -> u8
 where
     R: Threads + Wait + Sync + Copy + Send + 'static,
@@ -216,9 +261,13 @@ where
     let Ok(room) = room_of(host.alloc(), terms.memory) else {
         return print_line(&mut out, "fault: memory", FAULT);
     };
+    print_small(rt, terms.memory, told.limited);
     make_room(rt, host, path, terms.memory);
     let opened = open_data::<R, Wary, Wary, AnyBodies, _>(
-        Watch { rt, seen },
+        Watch {
+            rt,
+            seen: told.seen,
+        },
         host,
         path,
         limits(),
@@ -236,7 +285,7 @@ where
     };
     tell_losses(rt, host, path, &data.losses);
     tell_missing(rt, path, data.missing);
-    listen_over(rt, addr, terms, data.kept, path, seen, &mut out)
+    listen_over(rt, addr, terms, data.kept, path, told, &mut out)
 }
 
 /// Serves what comes to an address, by a service that is kept in the data directory at `path`; gives the exit status.
@@ -246,7 +295,7 @@ fn listen_over<R, K, W>(
     terms: Terms,
     kept: KeptService<K>,
     path: &str,
-    seen: bool,
+    told: Told,
     out: &mut W,
 ) -> u8
 where
@@ -260,11 +309,15 @@ where
     requires waiting { K.waiting kept.keeping ≡ [] }
     requires begun { kept.since ≤ K.last kept.keeping }
 {
-    print_holding(rt, kept.service.counts(), terms.memory);
+    print_holding(rt, kept.service.counts(), terms.memory, told.limited);
     match bind(rt, addr, out) {
         Ok(listener) => {
-            print_memory(rt, terms.memory, false);
-            print_stop(rt, Some(path), seen);
+            let unseen = Told {
+                seen: false,
+                limited: told.limited,
+            };
+            print_memory(rt, terms.memory, unseen);
+            print_stop(rt, Some(path), told.seen);
             run_serve_kept(rt, &listener, terms, kept, out)
         }
         Err(status) => status,

@@ -29,7 +29,7 @@ mod words;
 use crate::compacting::run_compact;
 use crate::complaint::{Complaint, complaint_on, complaint_text};
 use crate::help::{HELP, VERSION};
-use crate::listening::{listen, listen_keeping};
+use crate::listening::{Told, listen, listen_keeping};
 use crate::memory::usual_memory;
 use crate::once::run_once;
 use crate::size::{is_slow, read_memory};
@@ -259,9 +259,11 @@ where
         Ok(damaged) => damaged,
         Err(status) => return status,
     };
+    let limited = env::var(host, MEMORY).is_ok();
+    let told = Told { seen, limited };
     match data_of(host) {
-        Ok(None) => listen(rt, addr, terms, seen),
-        Ok(Some(path)) => listen_keeping(rt, host, addr, terms, path.as_str(), damaged, seen),
+        Ok(None) => listen(rt, addr, terms, told),
+        Ok(Some(path)) => listen_keeping(rt, host, addr, terms, path.as_str(), damaged, told),
         Err(status) => status,
     }
 }

@@ -63,7 +63,10 @@ impl fmt::Display for CompactingFault {
             }
             CompactingFault::TooLarge { takes, memory } => {
                 let (takes, memory) = (ByteCount(*takes), ByteCount(*memory));
-                write!(f, "that takes {takes} of memory, BLOBD_MEMORY is {memory}")
+                write!(
+                    f,
+                    "that takes {takes} of memory, the server may hold {memory}"
+                )
             }
             CompactingFault::CutOff => {
                 f.write_str("it was cut off the last time; the next start tries it again")
