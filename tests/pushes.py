@@ -35,14 +35,25 @@ NAME_RULE = (
 )
 
 
-def waits_for(addr):
+def waits_for(addr, what):
     """What standard error says of a wait for a server."""
-    return f"blobd: waits for {addr}\n"
+    return f"blobd: waits for {addr}, {what} s left\n"
 
 
-def given_up(addr, why, line="out of tries", waits=0):
-    """What a push prints that was given up, and on standard error why, behind so many waits."""
-    return f"refused: {line}\n", 1, waits_for(addr) * waits + f"blobd: can't push to {addr}: {why}\n"
+# What is waited for, once some five seconds of it have passed.
+REFUSED, NOBODY, NOTHING = "Connection refused (os error 111)", "where nobody listens: 5x", "which says nothing: 25"
+
+
+def untimed(ended):
+    """What a push prints, without how long exactly it dials: each dial takes its time."""
+    line, status, told = ended
+    return line, status, re.sub(r"(where nobody listens: 5)\d", r"\1x", told)
+
+
+def given_up(addr, why, line="out of tries", waits=()):
+    """What a push prints that was given up, and on standard error why, behind these waits."""
+    told = "".join(waits_for(addr, what) for what in waits)
+    return f"refused: {line}\n", 1, f"{told}blobd: can't push to {addr}: {why}\n"
 
 
 @case()
@@ -140,24 +151,28 @@ def servers_that_come_again(folder):
 
 @case("cc")
 def servers_that_stay_away(folder):
-    """Where nobody listens one ask dials for a minute, and those behind it once each. That is told once."""
+    """Where nobody listens one ask dials for a minute, and those behind it once each. That is told once, and a terminal
+    sees how long it goes on."""
     abc, hasty = written(folder, b"abc"), shims.loaded(folder, "minutes")
     addr = servers.free_address()
     begun = time.monotonic()
     ended = run("push", addr, "lib/a", abc, "2", env=hasty)
     waited = time.monotonic() - begun
-    equal("a server that isn't there", ended, given_up(addr, "Connection refused (os error 111) (tried 7 times)", waits=1))
+    equal("a server that isn't there", untimed(ended), given_up(addr, f"{REFUSED} (tried 7 times)", waits=[NOBODY]))
     # a minute, and the waits between the tries, thirty times as fast; seven minutes are more
     check("as long as it is dialed", 2.1 < waited < 13, waited)
     told, drawn = on_a_terminal("push", addr, "lib/a", abc, "2", env=hasty)
     equal("a server that isn't there, on a terminal", told, ("refused: out of tries\n", 1))
-    equal("a line for the minute", drawn.count(f"\r\x1b[Kblobd: waits for {addr}\r\n"), 1)
+    line = rf"\rblobd: waits for {addr}, where nobody listens: (\d+) s left\x1b\[K"
+    left = [int(left) for left in re.findall(line, drawn)]
+    check("the minute is counted down", left == sorted(left, reverse=True) and len(left) > 20 and left[0] > 50, left)
     with concurrent.futures.ThreadPoolExecutor(1) as pool:
         late = pool.submit(run, "push", addr, "lib/a", abc, "2", env=hasty)
         # half of the minute
         time.sleep(1)
         with Server(100, servers.place(addr)[1]):
-            equal("a server that starts within the minute", late.result(), (*pushed(b"abc")[:2], waits_for(addr)))
+            wanted = (*pushed(b"abc")[:2], waits_for(addr, NOBODY))
+            equal("a server that starts within the minute", untimed(late.result()), wanted)
 
 
 def held(data):
@@ -443,7 +458,8 @@ def silent_servers(folder):
         begun = time.monotonic()
         ended = run("push", addr, "lib/a", abc, "2", env=hasty)
         waited = time.monotonic() - begun
-        equal("a silent server", ended, given_up(addr, "the server was silent for 30 s (tried 7 times)", waits=7))
+        wanted = given_up(addr, "the server was silent for 30 s (tried 7 times)", waits=[NOTHING] * 7)
+        equal("a silent server", ended, wanted)
         # seven times half a minute, thirty times as fast
         check("as long as it is waited for", 6.9 < waited < 150, waited)
 
@@ -455,7 +471,7 @@ def a_terminal_that_is_told_to_wait(folder):
     with Scripted([head_of(3)], delay=6) as server:
         told, drawn = on_a_terminal("push", server.addr, "lib/a", abc, "2")
         equal("a server that takes its time", told, already(b"abc")[:2])
-        line = f"\r\x1b[Kblobd: waits for {server.addr}\r\n"
+        line = f"\rblobd: waits for {server.addr}, {NOTHING} s left\x1b[K"
         equal("a line for each of two requests", drawn.count(line), 2)
 
 

@@ -11,7 +11,7 @@ const FIRST_PAUSE: u64 = 100;
 const LONGEST_PAUSE: u64 = 2_000;
 
 /// How long a request is dialed for while nobody listens, in milliseconds.
-const DIALED_MILLIS: u64 = 60_000;
+pub(crate) const DIALED_MILLIS: u64 = 60_000;
 
 /// The shortest wait between two of these dials, in milliseconds.
 const FIRST_DIAL_PAUSE: u64 = 100;

@@ -6,7 +6,7 @@ ghost use Rattle.blobd_push.specs.Pushed.{IsPushed};
 
 use crate::bar::millis_of;
 use crate::dials::Dials;
-use crate::pauses::dial_pause;
+use crate::pauses::{DIALED_MILLIS, dial_pause};
 use crate::push::{Job, push_over};
 use blobd_shared::{ConnHistory, FAULT, Inlet, Outlet, print_line};
 use http_wire::Transcript;
@@ -23,7 +23,7 @@ const CONNECT_SECONDS: u64 = 10;
 /// How long a server may be silent, and how long it may take no byte, in seconds.
 const SILENCE_SECONDS: u64 = 30;
 
-/// After how much of such a wait it is told, in seconds.
+/// After how much of such a wait it is told, in seconds, and then again and again to who looks on.
 const TOLD_SECONDS: u64 = 5;
 
 /// How often a write that waits looks for a reply that has come already, in seconds.
@@ -32,7 +32,7 @@ const LOOK_SECONDS: u64 = 1;
 /// What Linux calls the error of a write to a peer that takes no more.
 const EPIPE: i32 = 32;
 
-/// How a push waits for its server. A wait has two parts, with a line on standard error between them.
+/// How a push waits for its server. What is told of a wait stands on standard error.
 #[derive(Clone, Copy)]
 struct Waits {
     addr: SocketAddr,
@@ -41,32 +41,48 @@ struct Waits {
 }
 
 impl Waits {
-    /// Whether a call ended because the first part of its wait is over: then that is told.
-    fn tells<R: Eprint, T>(&self, rt: &R, ended: &io::Result<T>) -> bool {
-        let is_over = |error: &io::Error| {
-            matches!(error.kind(), ErrorKind::WouldBlock | ErrorKind::TimedOut)
-        };
-        let tells = ended.as_ref().is_err_and(is_over);
-        if tells {
-            self.tell(rt);
-        }
-        tells
-    }
-
-    /// Tells of a wait, in a line of its own.
-    fn tell<R: Eprint>(&self, rt: &R) {
-        let addr = self.addr;
-        // It is in the place of a bar.
-        let begin = if self.seen { "\r\x1b[K" } else { "" };
+    /// Tells what is waited for, once that has taken so many of the most seconds. Who looks on sees it count down, in
+    /// the place of a bar, and others are told at the first time.
+    fn tell<R: Eprint>(&self, rt: &R, what: &str, is_first: bool, waited: u64, most: u64) {
+        let (addr, left) = (self.addr, most.saturating_sub(waited));
         // Nothing is promised of standard error.
-        let _ = eprintln!(rt; "{begin}blobd: waits for {addr}");
+        let _ = if self.seen {
+            eprint!(rt; "\rblobd: waits for {addr}, {what}: {left} s left\x1b[K")
+        } else if is_first {
+            eprintln!(rt; "blobd: waits for {addr}, {what}: {left} s left")
+        } else {
+            Ok(())
+        };
     }
 }
 
-/// The first part of a wait of so many seconds, and the rest.
-fn parts(seconds: u64) -> (Duration, Duration) {
-    let rest = seconds.saturating_sub(TOLD_SECONDS);
-    (Duration::from_secs(TOLD_SECONDS), Duration::from_secs(rest))
+/// Whether a call ended because it waited for as long as it may.
+fn is_over<T>(ended: &io::Result<T>) -> bool {
+    let waited = |error: &io::Error| matches!(
+        error.kind(),
+        ErrorKind::WouldBlock | ErrorKind::TimedOut
+    );
+    ended.as_ref().is_err_and(waited)
+}
+
+/// Reads, and again while the peer says nothing, for half a minute at most. Each read waits for a part of that.
+fn read_in_time<R: Eprint>(
+    rt: &R,
+    waits: Waits,
+    stream: &mut TcpStream,
+    buf: &mut [u8],
+) -> io::Result<usize>
+    ensures { IfOk result (λ n. n ≤ length buf.new) }
+{
+    for part in 1..SILENCE_SECONDS / TOLD_SECONDS {
+        let moved = stream.read(buf);
+        if !is_over(&moved) {
+            return moved;
+        }
+        let waited = part.saturating_mul(TOLD_SECONDS);
+        waits.tell(rt, "which says nothing", part == 1, waited, SILENCE_SECONDS);
+    }
+    stream.read(buf)
 }
 
 /// One end of a socket, which is only read from or only written to, and what was read or written so far.
@@ -121,8 +137,11 @@ impl<'r, R: Eprint> Socket<'r, R> {
             }
             Err(_) if is_would_block(wrote) => {
                 self.untaken = self.untaken.saturating_add(LOOK_SECONDS);
-                if self.untaken == TOLD_SECONDS {
-                    self.waits.tell(self.rt);
+                if self.untaken % TOLD_SECONDS == 0 {
+                    let is_first = self.untaken == TOLD_SECONDS;
+                    let what = "which takes no more of a request";
+                    self.waits
+                        .tell(self.rt, what, is_first, self.untaken, SILENCE_SECONDS);
                 }
                 let goes_on = self.untaken < SILENCE_SECONDS;
                 if !goes_on {
@@ -167,14 +186,7 @@ impl<'r, R: Eprint> Inlet for Socket<'r, R> {
     ghost given = { λ s. s.moved };
 
     fn read(&mut self, buf: &mut [u8]) -> io::Result<usize> {
-        let mut moved = self.stream.read(buf);
-        if self.waits.tells(self.rt, &moved) {
-            let (first, rest) = parts(SILENCE_SECONDS);
-            let _ = self.stream.set_read_timeout(Some(rest));
-            moved = self.stream.read(buf);
-            let _ = self.stream.set_read_timeout(Some(first));
-        }
-        let count = moved?;
+        let count = read_in_time(self.rt, self.waits, &mut self.stream, buf)?;
         self.moved = self.moved.and(&buf[..count]);
         Ok(count)
     }
@@ -208,10 +220,12 @@ fn reach<R>(rt: &R, waits: Waits) -> io::Result<TcpStream>
 where
     R: Net<Stream = TcpStream> + Eprint,
 {
-    let (first, rest) = parts(CONNECT_SECONDS);
-    let stream = TcpStream::connect_timeout(rt, &waits.addr, first);
-    if waits.tells(rt, &stream) {
-        return TcpStream::connect_timeout(rt, &waits.addr, rest);
+    let stream = TcpStream::connect_timeout(rt, &waits.addr, Duration::from_secs(TOLD_SECONDS));
+    if is_over(&stream) {
+        let what = "which takes no connection";
+        waits.tell(rt, what, true, TOLD_SECONDS, CONNECT_SECONDS);
+        let rest = CONNECT_SECONDS.saturating_sub(TOLD_SECONDS);
+        return TcpStream::connect_timeout(rt, &waits.addr, Duration::from_secs(rest));
     }
     stream
 }
@@ -222,7 +236,7 @@ fn is_refused<T>(made: &io::Result<T>) -> bool {
         .is_err_and(|error| error.kind() == ErrorKind::ConnectionRefused)
 }
 
-/// A new connection, for which it dials again while nobody listens, for up to a minute. That is told once.
+/// A new connection, for which it dials again while nobody listens, for up to a minute.
 fn reach_in_time<R>(rt: &R, waits: Waits) -> io::Result<TcpStream>
 where
     R: Net<Stream = TcpStream> + Clock + Eprint,
@@ -240,8 +254,10 @@ where
         let Some(pause) = dial_pause(passed) else {
             return stream;
         };
-        if untold && passed >= TOLD_SECONDS * 1_000 {
-            waits.tell(rt);
+        let seconds = passed / 1_000;
+        if seconds >= TOLD_SECONDS {
+            let most = DIALED_MILLIS / 1_000;
+            waits.tell(rt, "where nobody listens", untold, seconds, most);
             untold = false;
         }
         thread::sleep(rt, Duration::from_millis(pause));
@@ -265,8 +281,7 @@ where
     } else {
         reach(rt, waits)?
     };
-    let (first, _) = parts(SILENCE_SECONDS);
-    end_silence(&stream, first)?;
+    end_silence(&stream, Duration::from_secs(TOLD_SECONDS))?;
     // A peer that has gone already can make this fail; the reads and writes will tell.
     let _ = stream.set_nodelay(true);
     let source = Socket::new(rt, stream.try_clone()?, waits);
@@ -332,8 +347,8 @@ impl<'r, R: Net<Stream = TcpStream> + Clock + Eprint> Dials for Sockets<'r, R> {
 /// If nobody listens at `addr`, one ask goes on dialing for up to a minute, so that a server may be started again
 /// meanwhile. If that was in vain, it is one ask that wasn't heard, and those behind it dial once each.
 ///
-/// Standard error says more of what was refused, and that the server is waited for, once it was silent, or wasn't
-/// there, for five seconds. If it is a terminal, and so `seen`, a bar stands there meanwhile.
+/// Standard error says more of what was refused, and that the server is waited for and for how long still, once it was
+/// silent, or wasn't there, for five seconds. If it is a terminal, and so `seen`, a bar stands there meanwhile.
 pub fn run_push<R, W>(
     rt: &R,
     addr: SocketAddr,
