@@ -262,7 +262,7 @@ ELSEWHERE = (
     "or, if that is https, through `make adapter REGISTRY=host:port`"
 )
 NO_REGISTRY = "it takes no uploads into this repository: is it a registry?"
-LOST = f"it lost the upload: push again, or through {ADAPTER} if it is docker-registry"
+LOST = f"if it is docker-registry, push through {ADAPTER}; else it lost the upload: push again"
 NO_HTTP = "the reply isn't HTTP: is this https? (tried 7 times)"
 TLS = f"the reply is TLS: {HTTPS} (tried 7 times)"
 CLOSED = "the server closed the connection before it had replied: is this https? (tried 7 times)"

@@ -210,6 +210,9 @@ def a_push_through_the_adapter(folder):
     content = random.Random(9).randbytes(3 * MIB + 7)
     path = written(folder, content)
     with servers.DockerRegistry(folder) as registry, servers.Adapter(folder, registry.address) as adapter:
+        line, status, told = push(registry.address, "lib/straight", path, MIB)
+        advice = f"blobd: can't push to {registry.address}: if it is docker-registry, push through `make adapter "
+        check("a push without it says first to take it", status == 1 and told.startswith(advice), (line, status, told))
         for name, chunk in (("lib/adapted", MIB), ("lib/whole", 8 * MIB)):
             ran = push(adapter.address, name, path, chunk)
             equal(f"blobd push through the adapter in chunks of {chunk}", ran, pushed(content))

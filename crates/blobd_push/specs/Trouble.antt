@@ -98,7 +98,7 @@ words_of_advice NoLogin =
     "it wants a login, and a push has none: push to the reverse proxy's local address, or through `make adapter REGISTRY=http://host:port LOGIN=FILE`"
 words_of_advice PushAgain =
     codes
-    "it lost the upload: push again, or through `make adapter REGISTRY=http://host:port` if it is docker-registry"
+    "if it is docker-registry, push through `make adapter REGISTRY=http://host:port`; else it lost the upload: push again"
 words_of_advice IsItARegistry = codes "it takes no uploads into this repository: is it a registry?"
 words_of_advice Adapter =
     codes

@@ -211,8 +211,8 @@ fn words_of_advice(advice: Advice) -> &'static str
              REGISTRY=http://host:port LOGIN=FILE`"
         }
         Advice::PushAgain => {
-            "it lost the upload: push again, or through `make adapter REGISTRY=http://host:port` if it is \
-             docker-registry"
+            "if it is docker-registry, push through `make adapter REGISTRY=http://host:port`; else it lost the upload: \
+             push again"
         }
         Advice::IsItARegistry => "it takes no uploads into this repository: is it a registry?",
         Advice::Adapter => {
