@@ -6,7 +6,9 @@
 The servers take turns, each run with a new server and a new folder in FOLDER, which should be on a disk and not in
 memory. A figure is the best of the runs. Uploads are compared with `sha256sum` on the same bytes, in the same runs; small
 blobs are counted by the second, beside the syncs of a journal alone: two for each request, or for each round of all
-clients, in which each sends a request before any reads its reply. A request that changes nothing waits beside uploads of
+clients, in which each has a request. These clients are wrk's, and each asks as soon as it is answered; if wrk isn't
+installed, one thread of Python sends a request of each before it reads a reply, and is slower than the server. A
+request that changes nothing waits beside uploads of
 four times SIZE: its longest wait, and the longest of a sync beside the same. A start is that of a server with a directory
 that has eight blobs of SIZE, in one body each or in chunks of 4 MiB. `blobd compact` has twenty times COUNT small blobs,
 or eight of SIZE in one body each, and is measured beside a start with them; `--starts` measures no more than starts and
@@ -38,6 +40,9 @@ BESIDE, BEFORE_A_START = 4, 8
 COMPACTED = 20
 CHUNK = 4 * MIB
 SECTOR = 4_096
+# what wrk runs, for how many seconds, and how many blobs there are for it, more than are stored meanwhile
+WRK_SCRIPT = os.path.join(os.path.dirname(os.path.abspath(__file__)), "blobs.lua")
+WRK_SECONDS, WRK_BLOBS = 2, 200_000
 
 
 class OnDisk(loopback.Blobd):
@@ -136,6 +141,26 @@ def small_blobs(count, clients, server):
         return loopback.seconds(work)
 
 
+@functools.cache
+def digests():
+    return "".join(f"{small_blob(number)[1]}\n" for number in range(WRK_BLOBS))
+
+
+def small_blobs_by_wrk(count, clients, server):
+    """The same by clients of wrk, from how many they store in its time."""
+    with server, tempfile.NamedTemporaryFile("w") as file:
+        file.write(digests())
+        file.flush()
+        many, (host, port) = str(clients), server.place()
+        words = ["wrk", "--threads", many, "--connections", many, "--duration", f"{WRK_SECONDS}s", "--timeout", "10s"]
+        words += ["--script", WRK_SCRIPT, f"http://{host}:{port}", file.name, many]
+        told = subprocess.run(words, check=True, capture_output=True, text=True).stdout
+    stored, taken, faults = map(float, told.split()[-3:])
+    if faults:
+        sys.exit(f"wrk: {told}")
+    return taken * count / stored
+
+
 def uploaded(blob, chunk, connection):
     loopback.upload(connection, "lib/a", blob, chunk)
 
@@ -158,7 +183,12 @@ def rows(blob):
     yield "a pull", blob.size, None, functools.partial(pulled, blob)
     count = OPTIONS.blobs
     yield f"{count} small blobs", None, 1, functools.partial(small_blobs, count, 1)
-    yield f"the same by {CROWD} clients", None, CROWD, functools.partial(small_blobs, count, CROWD)
+    whole = count // CROWD * CROWD
+    if shutil.which("wrk"):
+        yield f"the same by {CROWD} clients", None, CROWD, functools.partial(small_blobs_by_wrk, whole, CROWD)
+    else:
+        name = f"the same by {CROWD} clients in one thread, without wrk"
+        yield name, None, CROWD, functools.partial(small_blobs, whole, CROWD)
 
 
 def synced(file, at, content):
@@ -169,9 +199,10 @@ def synced(file, at, content):
 
 def rounds_alone(clients):
     """The seconds of what a journal does for the small blobs of so many clients, by nothing else: a round of openings
-    and one of closes for each of a client's, a gate with each round, and a sync behind each write."""
+    and one of closes for each of a client's, a gate with each round, and a sync behind each write. They are a share of
+    as many rounds as one client has, so that it takes long enough to be measured."""
     with tempfile.TemporaryFile(dir=OPTIONS.folder) as file:
-        rounds, size = OPTIONS.blobs // clients * 2, clients * SMALL_SIZE + SECTOR
+        rounds, size = OPTIONS.blobs * 2, clients * SMALL_SIZE + SECTOR
         os.posix_fallocate(file.fileno(), 0, rounds * (size + SECTOR))
         os.fsync(file.fileno())
 
@@ -180,7 +211,7 @@ def rounds_alone(clients):
                 synced(file, at + SECTOR, bytes(size))
                 synced(file, at, bytes(SECTOR))
 
-        return loopback.seconds(work)
+        return loopback.seconds(work) * (OPTIONS.blobs // clients) / OPTIONS.blobs
 
 
 def uploads(blob, connection):
