@@ -109,6 +109,22 @@ fn a_refused_growth_leaves_a_body_and_its_hash(rt: HostRuntime) -> Result<(), Fa
     Ok(())
 }
 
+#[test]
+fn a_hash_is_taken_over_of_the_same_bytes(rt: HostRuntime) -> Result<(), Fail> {
+    for hashed in HASHES.iter() {
+        let hashed_before = body_of(rt.alloc(), *hashed, &[b"abc"])?;
+        let same = body_of(rt.alloc(), None, &[b"a", b"bc"])?.hashed_as(&hashed_before);
+        assert!(rt; carries(&same, *hashed), "{hashed:?}");
+        assert!(rt;
+            is_content(&same, b"abc", &[ABC_256, ABC_512]),
+            "{hashed:?}"
+        );
+        let other = body_of(rt.alloc(), None, &[b"abd"])?.hashed_as(&hashed_before);
+        assert!(rt; carries(&other, None), "{hashed:?}");
+    }
+    Ok(())
+}
+
 /// The bytes of a part of a body.
 const PART_SIZE: usize = 4_194_240;
 

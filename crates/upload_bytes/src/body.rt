@@ -120,6 +120,32 @@ impl Body {
         }
     }
 
+    /// The same bytes, with the hash that another body carries if that has just these bytes, in the same parts.
+    pub fn hashed_as(self, other: &Body) -> Body
+        ensures { result ≡ self }
+    {
+        let Some(hash) = &other.running else {
+            return self;
+        };
+        if !self.is_same(other) {
+            return self;
+        }
+        let Body {
+            pieces,
+            len,
+            running: _,
+            behind,
+            filed,
+        } = self;
+        Body {
+            pieces,
+            len,
+            running: Some(hash.copy()),
+            behind,
+            filed,
+        }
+    }
+
     /// A hash that holds these segments and the bytes behind them, if they were hashed behind just these.
     pub(crate) fn behind(&self, segments: &Segments) -> Option<Running>
         ensures { IfSome result
