@@ -1,29 +1,34 @@
 //! A shelf whose bodies are read, and hashed, before they are asked for.
 ghost use Rattle.std.specs.Prelude.{◌≡◌};
-ghost use Rattle.bodies.specs.Reader.{bytes_of};
-ghost use Rattle.std.specs.Prelude.{[]};
 
 use crate::fault::BodyFault;
-use crate::hint::Hint;
+use crate::hint::{Bond, Hint, HintedClose, HintedFile};
 use crate::lending::Lends;
 use crate::shelf::Shelf;
-use crate::whole::{Whole, read_whole};
+use crate::whole::{Unread, Whole, Wholes, read_hinted};
 use std::alloc::Global;
 use std::collections::VecDeque;
-use std::io;
 use std::thread::{self, JoinHandle, Threads};
-use upload_bytes::{Body, Spool, SyncedFile};
+use std::{io, vec};
+use upload_bytes::{Body, Front, Spool, SyncedFile};
+use upload_names::UploadRef;
 
 /// The stack of a thread that reads, in bytes.
 const STACK: usize = 262_144;
 
-/// A body that a thread reads. It is let go once the thread has ended: what a thread has read stays in memory if nobody
+/// Bodies that a thread reads. It is let go once the thread has ended: what a thread has read stays in memory if nobody
 /// takes it.
 struct UnderWay<'a, R: Threads> {
     rt: &'a R,
     hint: Hint,
-    /// None once what it has read is taken.
-    thread: Option<JoinHandle<Option<Whole>>>,
+    /// How many of its files were asked for.
+    asked: usize,
+    /// How many bytes the others have.
+    left: u64,
+    /// None once it was joined.
+    thread: Option<JoinHandle<Option<Wholes>>>,
+    /// What is left of what it has read.
+    read: Option<Wholes>,
 }
 
 impl<'a, R: Threads> Drop for UnderWay<'a, R> {
@@ -31,7 +36,10 @@ impl<'a, R: Threads> Drop for UnderWay<'a, R> {
         let Self {
             rt,
             hint: _hint,
+            asked: _asked,
+            left: _left,
             thread,
+            read: _read,
         } = self;
         if let Some(thread) = thread {
             let _ = thread.join(rt);
@@ -39,20 +47,81 @@ impl<'a, R: Threads> Drop for UnderWay<'a, R> {
     }
 }
 
-/// A shelf whose bodies are read before they are asked for, each in a thread of its own: so many at a time as there are
-/// processors, and as many that wait to be asked for. No more are begun while these have as many bytes as they may.
+impl<'a, R: Threads> UnderWay<'a, R> {
+    /// The file that is asked for next.
+    fn next(&self) -> Option<&HintedFile> {
+        self.hint.files.get(self.asked)
+    }
+
+    /// The close for which what the upload has received is asked for next.
+    fn next_close(&self) -> Option<&HintedClose> {
+        match &self.hint.bond {
+            Bond::OneUpload(close) if !close.has_file && self.next().is_none() => Some(close),
+            _ => None,
+        }
+    }
+
+    /// The place of what is asked for next. Behind the last there is none.
+    fn place(&self) -> Option<u64> {
+        match self.next() {
+            Some(file) => Some(file.place),
+            None => self.next_close().map(|close| close.place),
+        }
+    }
+
+    /// Whether it has one body in several files.
+    fn is_joined(&self) -> bool {
+        matches!(self.hint.bond, Bond::OneBody)
+    }
+
+    /// Whether the file of this number is asked for next.
+    fn starts_with(&self, number: u64) -> bool {
+        self.next().is_some_and(|file| file.number == number)
+    }
+
+    /// Whether what this upload has received is asked for next.
+    fn closes(&self, at: &UploadRef) -> bool {
+        self.next_close().is_some_and(|close| close.at.same(at))
+    }
+
+    /// What its thread has read. It is waited for.
+    fn read(&mut self) -> Option<&mut Wholes> {
+        if let Some(thread) = self.thread.take() {
+            self.read = thread.join(self.rt);
+        }
+        self.read.as_mut()
+    }
+
+    /// The next body.
+    fn take(&mut self) -> Option<Whole> {
+        let len = self.next().map_or(0, |file| file.len);
+        self.left = self.left.saturating_sub(len);
+        self.asked = self.asked.saturating_add(1);
+        self.read()?.bodies.pop_front()
+    }
+
+    /// The body in several files.
+    fn take_joined(&mut self) -> Option<Body> {
+        self.read()?.joined.take()
+    }
+
+    /// What the upload has received.
+    fn take_front(&mut self) -> Option<Front> {
+        self.read()?.front.take()
+    }
+}
+
+/// A shelf whose bodies are read before they are asked for, by threads: each reads one body, or those of one upload. There
+/// are so many threads at a time as there are processors, and as many whose bodies wait to be asked for. No more are
+/// begun while these have as many bytes as they may.
 #[derive(Drop)]
 pub struct AheadShelf<'a, R: Threads, S: Lends> {
     rt: &'a R,
     alloc: Global,
     inner: S,
-    /// What is likely to be asked for, in this order.
-    hints: Vec<Hint>,
-    /// How many of these are begun, or given up.
-    begun: usize,
+    /// What is likely to be asked for, and isn't begun.
+    hints: vec::IntoIter<Hint>,
     under_way: VecDeque<UnderWay<'a, R>>,
-    /// How many bytes the bodies have that are under way.
-    ahead: u64,
     /// So many may be under way.
     most: usize,
     /// No more are begun while they have so many bytes.
@@ -62,8 +131,8 @@ pub struct AheadShelf<'a, R: Threads, S: Lends> {
 impl<'a, R: Threads, S: Lends> AheadShelf<'a, R, S> {
     ghost use Rattle.bodies.specs.AheadShelf.{inner_of};
 
-    /// Reads ahead what the hints tell, in their order: bodies of up to `most_ahead` bytes together, and one more. Others
-    /// are read as they are asked for.
+    /// Reads ahead what the hints tell, in the order of their first files: bodies of up to `most_ahead` bytes together, and
+    /// those of one more hint. Others are read as they are asked for.
     pub fn new(
         rt: &'a R,
         alloc: Global,
@@ -78,10 +147,8 @@ impl<'a, R: Threads, S: Lends> AheadShelf<'a, R, S> {
             rt,
             alloc,
             inner,
-            hints,
-            begun: 0,
+            hints: hints.into_iter(),
             under_way: VecDeque::new(alloc),
-            ahead: 0,
             most: processors.saturating_mul(2),
             most_ahead,
         }
@@ -96,93 +163,126 @@ impl<'a, R: Threads, S: Lends> AheadShelf<'a, R, S> {
         shelf.inner
     }
 
-    /// Lets go of the bodies before this one, if it is under way.
-    fn drop_before(&mut self, number: u64)
-        ensures { inner_of self.new ≡ inner_of self.old }
-    {
-        let place = self
-            .under_way
-            .iter()
-            .position(|begun| begun.hint.number == number);
-        for _ in 0..place.unwrap_or(0) {
-            let _ = self.pop();
+    /// How many bytes are under way.
+    fn ahead(&self) -> u64 {
+        let mut ahead: u64 = 0;
+        for it in self.under_way.iter() {
+            ahead = ahead.saturating_add(it.left);
         }
+        ahead
     }
 
-    /// The first body that is under way.
-    fn pop(&mut self) -> Option<UnderWay<'a, R>>
-        ensures { inner_of self.new ≡ inner_of self.old }
-    {
-        let first = self.under_way.pop_front()?;
-        self.ahead = self.ahead.saturating_sub(first.hint.len);
-        Some(first)
-    }
-
-    /// Begins as many bodies as may be under way.
+    /// Begins as many hints as may be under way.
     fn read_on(&mut self)
         ensures { inner_of self.new ≡ inner_of self.old }
     {
         for _ in self.under_way.len()..self.most {
-            if self.ahead >= self.most_ahead {
+            if self.ahead() >= self.most_ahead {
                 return;
             }
-            let Some(hint) = self.hints.get(self.begun) else {
+            let Some(hint) = self.hints.next() else {
                 return;
             };
-            let hint = *hint;
-            self.begun = self.begun.saturating_add(1);
             self.begin(hint);
         }
     }
 
-    /// Begins a body. Without a file, a thread or memory it is read as it is asked for.
+    /// The files of a hint, which are to be read.
+    fn lend(&self, files: &[HintedFile]) -> io::Result<Vec<Unread>> {
+        let mut unread = Vec::with_capacity(self.alloc, files.len())?;
+        for file in files {
+            let reader = self.inner.lend(file.number)?;
+            unread.push(Unread { reader })?;
+        }
+        Ok(unread)
+    }
+
+    /// Begins a hint. Without a thread or memory its bodies are read as they are asked for.
     fn begin(&mut self, hint: Hint)
         ensures { inner_of self.new ≡ inner_of self.old }
     {
-        let Ok(reader) = self.inner.lend(hint.number) else {
+        let Ok(files) = self.lend(hint.files.as_slice()) else {
             return;
         };
         let alloc = self.alloc;
+        let bond = hint.bond;
         let hashed = hint.hashed;
-        let read = move || -> Option<Whole>
-            requires { bytes_of reader ≡ [] }
-        { read_whole(reader, alloc, hashed) };
+        let read = move || -> Option<Wholes> { read_hinted(files, bond, hashed, alloc) };
         let Ok(thread) = thread::Builder::new()
             .stack_size(STACK)
             .spawn(self.rt, read)
         else {
             return;
         };
-        let begun = UnderWay {
+        let _ = self.under_way.push_back(UnderWay {
             rt: self.rt,
+            left: hint.len(),
             hint,
+            asked: 0,
             thread: Some(thread),
-        };
-        if self.under_way.push_back(begun).is_ok() {
-            self.ahead = self.ahead.saturating_add(hint.len);
-        }
+            read: None,
+        });
     }
 
     /// Lets go of all that is under way, and of all hints.
     fn forget(&mut self)
         ensures { inner_of self.new ≡ inner_of self.old }
     {
-        self.begun = self.hints.len();
+        self.hints = Vec::new(self.alloc).into_iter();
         self.under_way.clear();
-        self.ahead = 0;
+    }
+
+    /// What is under way of which this place is asked for next. What was to be asked for before is let go.
+    fn take_out(&mut self, place: u64) -> Option<UnderWay<'a, R>>
+        ensures { inner_of self.new ≡ inner_of self.old }
+    {
+        let mut found = None;
+        for _ in 0..self.under_way.len() {
+            let it = self.under_way.pop_front()?;
+            match it.place() {
+                Some(mine) if mine == place => found = Some(it),
+                Some(mine) if mine > place => {
+                    let _ = self.under_way.push_back(it);
+                }
+                _ => {}
+            }
+        }
+        found
     }
 
     /// What a thread has read of this number.
     fn take(&mut self, number: u64) -> Option<Whole>
         ensures { inner_of self.new ≡ inner_of self.old }
     {
-        match self.under_way.front() {
-            Some(first) if first.hint.number == number => {}
-            _ => return None,
+        let mut under_way = self.under_way.iter();
+        let found = under_way.find(|it| it.starts_with(number) && !it.is_joined());
+        let place = found?.place()?;
+        let mut it = self.take_out(place)?;
+        let whole = it.take()?;
+        if it.place().is_some() {
+            let _ = self.under_way.push_back(it);
         }
-        let mut first = self.pop()?;
-        let thread = first.thread.take()?;
-        thread.join(self.rt)
+        Some(whole)
+    }
+
+    /// What a thread has read of the body whose first file has this number.
+    fn take_joined(&mut self, number: u64) -> Option<Body>
+        ensures { inner_of self.new ≡ inner_of self.old }
+    {
+        let mut under_way = self.under_way.iter();
+        let found = under_way.find(|it| it.starts_with(number) && it.is_joined());
+        let place = found?.place()?;
+        self.take_out(place)?.take_joined()
+    }
+
+    /// What an upload has received, as a thread has read it for a close without a file.
+    fn take_front(&mut self, at: &UploadRef) -> Option<Front>
+        ensures { inner_of self.new ≡ inner_of self.old }
+    {
+        let mut under_way = self.under_way.iter();
+        let found = under_way.find(|it| it.closes(at));
+        let place = found?.place()?;
+        self.take_out(place)?.take_front()
     }
 }
 
@@ -235,19 +335,26 @@ impl<'a, R: Threads, S: Lends> Shelf for AheadShelf<'a, R, S> {
 
     fn take_hints(&mut self, hints: Vec<Hint>) {
         self.forget();
-        self.hints = hints;
-        self.begun = 0;
+        self.hints = hints.into_iter();
     }
 
     fn ready(&mut self, number: u64) -> Option<Body> {
         self.read_on();
-        self.drop_before(number);
         let whole = self.take(number)?;
         if whole.reader.number() != number {
             return None;
         }
         self.inner.take_back(whole.reader);
         Some(whole.body)
+    }
+
+    fn joined(&mut self, first: u64) -> Option<Body> {
+        self.read_on();
+        self.take_joined(first)
+    }
+
+    fn front(&mut self, at: &UploadRef) -> Option<Front> {
+        self.take_front(at)
     }
 
     fn numbers(&mut self, alloc: Global) -> Result<Vec<u64>, BodyFault> {

@@ -330,7 +330,8 @@ impl<S: Start, H: Holds> Shelf for FolderShelf<S, H> {
 impl<S: Start, H: Holds> Lends for FolderShelf<S, H> {
     fn lend(&self, number: u64) -> io::Result<BodyReader> {
         let counter = self.counter.share()?;
-        Ok(BodyReader::new(number, self.open_body(number)?, counter))
+        let path = self.path_of(number)?;
+        Ok(BodyReader::new(&self.rt, number, path, counter))
     }
 
     fn take_back(&mut self, reader: BodyReader) {

@@ -10,7 +10,7 @@ use std::io;
 /// A shelf that lends files of its bodies, so that they can be read in other threads. A body's file never changes, so
 /// it may be read at any time before it is removed.
 pub trait Lends: Shelf {
-    /// Opens the file of this number.
+    /// The file of this number, which is opened as it is read.
     fn lend(&self, number: u64) -> io::Result<BodyReader>
         ensures { IfOk result (λ reader.
             (number_of reader ≡ number) × (bytes_of reader ≡ [])) };

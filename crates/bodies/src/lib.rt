@@ -36,7 +36,7 @@ pub use counter::Counter;
 pub use fault::BodyFault;
 pub use files::{FolderShelf, Holds};
 pub use fuse::FuseShelf;
-pub use hint::Hint;
+pub use hint::{Bond, Hint, HintedClose, HintedFile};
 pub use lending::Lends;
 pub use memory::MemoryShelf;
 pub use naming::name;

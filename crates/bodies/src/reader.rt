@@ -7,11 +7,39 @@ use journal_file::Notes;
 use std::io::{self, Read};
 use std::{fs, mem};
 
-/// The file of a body, which is read from its front to its end, in any thread.
+/// Where a file stands that is read from its front to its end.
+#[derive(Drop)]
+enum Source {
+    /// It isn't open yet, and has this path.
+    At(String),
+    Open(fs::File),
+    /// Its end was found, and it is closed.
+    Over,
+}
+
+impl Source {
+    /// Reads the next bytes. Who reads first opens it.
+    fn read(&mut self, rt: &HostRuntime, buf: &mut [u8]) -> io::Result<usize>
+        ensures { IfOk result (λ n. n ≤ length buf.old) }
+    {
+        if let Source::At(path) = self {
+            let file = fs::File::open(rt, path.as_str())?;
+            *self = Source::Open(file);
+        }
+        match self {
+            Source::Open(file) => file.read(buf),
+            Source::At(_) | Source::Over => Ok(0),
+        }
+    }
+}
+
+/// The file of a body, which is read from its front to its end, in any thread. It is open from the first read until its
+/// end is found.
 #[derive(Drop)]
 pub struct BodyReader {
+    rt: HostRuntime,
     number: u64,
-    file: fs::File,
+    source: Source,
     counter: Counter,
     /// What came, the last byte first.
     came: Notes<u64>,
@@ -32,14 +60,15 @@ fn noted(came: Notes<u64>, bytes: &[u8]) -> Notes<u64>
 impl BodyReader {
     ghost use Rattle.bodies.specs.Reader.{number_of, bytes_of, is_over};
 
-    /// The file of this number, of which nothing was read.
-    pub(crate) fn new(number: u64, file: fs::File, counter: Counter) -> BodyReader
+    /// The file of this number, at this path, of which nothing was read.
+    pub(crate) fn new(rt: &HostRuntime, number: u64, path: String, counter: Counter) -> BodyReader
         ensures new { (number_of result ≡ number) × (bytes_of result ≡ []) }
         ensures begins { is_over result ≡ false }
     {
         BodyReader {
+            rt: *rt,
             number,
-            file,
+            source: Source::At(path),
             counter,
             came: Notes::none(),
             is_over: false,
@@ -68,11 +97,11 @@ impl BodyReader {
         ensures over { IfOk result (λ n.
             IsTrue (is_over self.new) ↔ ((n ≡ 0) × (0 < length buf.old))) }
         ensures number { number_of self.new ≡ number_of self.old }
-        ensures err { OnErr result (self.new ≡ self.old) }
+        ensures err { OnErr result ((bytes_of self.new ≡ bytes_of self.old)
+            × (is_over self.new ≡ is_over self.old)) }
     {
         let room = buf.len();
-        let mut file = &self.file;
-        let n = match file.read(buf) {
+        let n = match self.source.read(&self.rt, buf) {
             Ok(n) => n,
             Err(error) => return Err(error),
         };
@@ -80,6 +109,9 @@ impl BodyReader {
         let came = mem::replace(&mut self.came, Notes::none());
         self.came = noted(came, &buf[..n]);
         self.is_over = n == 0 && room > 0;
+        if self.is_over {
+            self.source = Source::Over;
+        }
         Ok(n)
     }
 }

@@ -11,7 +11,8 @@ use crate::hint::Hint;
 use sqlite_disk::Disk;
 use std::alloc::Global;
 use std::io;
-use upload_bytes::{Body, Spool, SyncedFile};
+use upload_bytes::{Body, Front, Spool, SyncedFile};
+use upload_names::UploadRef;
 
 /// Files by their numbers.
 pub trait Shelf {
@@ -136,6 +137,30 @@ pub trait Shelf {
         ensures clean { IsClean self.new → IsClean self.old }
     {
         let _ = number;
+        None
+    }
+
+    /// The body that is in several files, of which this number's is the first, if it was read already, with its hash: a
+    /// guess, which whoever takes it compares with what he reads. A shelf that reads nothing ahead has none.
+    fn joined(&mut self, first: u64) -> Option<Body>
+        ensures same { KeepsAll held may_leave self.old self.new }
+        ensures usable { is_usable self.new ≡ is_usable self.old }
+        ensures faults { faults self.new ≡ faults self.old }
+        ensures clean { IsClean self.new → IsClean self.old }
+    {
+        let _ = first;
+        None
+    }
+
+    /// What an upload has received that is about to be closed, if it was read already, with its hash: a guess,
+    /// which whoever takes it compares. A shelf that reads nothing ahead has none.
+    fn front(&mut self, at: &UploadRef) -> Option<Front>
+        ensures same { KeepsAll held may_leave self.old self.new }
+        ensures usable { is_usable self.new ≡ is_usable self.old }
+        ensures faults { faults self.new ≡ faults self.old }
+        ensures clean { IsClean self.new → IsClean self.old }
+    {
+        let _ = at;
         None
     }
 

@@ -2,12 +2,16 @@
 ghost use Rattle.std.specs.Prelude.{None, true};
 
 use crate::folders::mode_of;
-use bodies::{AheadShelf, Body, BodyFault, FolderShelf, Hint, Holds, Shelf, begin, finish};
+use bodies::{
+    AheadShelf, Body, BodyFault, Bond, FolderShelf, Hint, HintedClose, HintedFile, Holds, Shelf,
+    begin, finish,
+};
 use journal_file::{Folder, OpenFault, Wary};
 use sqlite_disk::{Fuse, Memory};
+use std::alloc::{AllocError, Global};
 use std::fs;
 use std::test::Fail;
-use upload_names::Algorithm;
+use upload_names::{Algorithm, UploadRef};
 
 /// A folder that is new has no bodies.
 #[derive(Drop)]
@@ -94,6 +98,20 @@ fn a_shelf_is_opened_again(rt: HostRuntime) -> Result<(), Fail> {
 /// As many bytes as a body may have before it is in several parts, and more.
 const LONG: usize = 5_000_000;
 
+/// A file that is asked for at a place.
+fn file(number: u64, len: u64, place: u64) -> HintedFile {
+    HintedFile { number, len, place }
+}
+
+/// A hint of these files.
+fn hinted(alloc: Global, files: &[HintedFile]) -> Result<Hint, AllocError> {
+    Ok(Hint {
+        files: Vec::from_slice(alloc, files)?,
+        bond: Bond::Apart,
+        hashed: None,
+    })
+}
+
 #[test]
 fn bodies_are_read_ahead(rt: HostRuntime) -> Result<(), Fail> {
     let (_folder, mut shelf) = new_shelf(&rt, "ahead")?;
@@ -104,12 +122,11 @@ fn bodies_are_read_ahead(rt: HostRuntime) -> Result<(), Fail> {
     put(&mut shelf, 6, b"not hinted", b"")?;
     put(&mut shelf, 8, b"not hashed", b"")?;
     let mut hints = Vec::new(rt.alloc());
-    for (number, len) in [(1, 6), (2, 0), (3, 9), (5, LONG as u64), (8, 10)].iter() {
-        hints.push(Hint {
-            number: *number,
-            len: *len,
-            hashed: (*number != 8).then_some(Algorithm::Sha256),
-        })?;
+    let files = [(1, 6), (2, 0), (3, 9), (5, LONG as u64), (8, 10)];
+    for (place, (number, len)) in files.iter().enumerate() {
+        let mut hint = hinted(rt.alloc(), &[file(*number, *len, place as u64)])?;
+        hint.hashed = (*number != 8).then_some(Algorithm::Sha256);
+        hints.push(hint)?;
     }
     let mut shelf = AheadShelf::new(&rt, rt.alloc(), shelf, hints, 1_000_000);
     let mut read = Vec::new(rt.alloc());
@@ -134,6 +151,57 @@ fn bodies_are_read_ahead(rt: HostRuntime) -> Result<(), Fail> {
     assert_eq!(rt; shelf.read_at(6, 4, &mut back)?, 4);
     assert_eq!(rt; back, *b"hint");
     fs::remove_dir_all(&rt, "ahead")?;
+    Ok(())
+}
+
+#[test]
+fn what_an_upload_received_is_read_ahead(rt: HostRuntime) -> Result<(), Fail> {
+    let (_folder, mut shelf) = new_shelf(&rt, "received")?;
+    put(&mut shelf, 1, b"abc", b"")?;
+    put(&mut shelf, 2, b"between", b"")?;
+    put(&mut shelf, 3, b"defg", b"")?;
+    let at = UploadRef::make(1, [0; 12]);
+    let mut upload = hinted(rt.alloc(), &[file(1, 3, 0), file(3, 4, 2)])?;
+    upload.bond = Bond::OneUpload(HintedClose {
+        at,
+        algorithm: Algorithm::Sha512,
+        has_file: false,
+        place: 3,
+    });
+    let mut hints = Vec::new(rt.alloc());
+    hints.push(upload)?;
+    hints.push(hinted(rt.alloc(), &[file(2, 7, 1)])?)?;
+    let mut shelf = AheadShelf::new(&rt, rt.alloc(), shelf, hints, 1_000_000);
+    for number in [1, 2, 3].iter() {
+        assert!(rt; shelf.front(&at).is_none(), "before {number}");
+        assert!(rt; shelf.ready(*number).is_some(), "{number}");
+    }
+    assert_eq!(rt; shelf.front(&at).map(|front| front.len()), Some(7));
+    assert!(rt; shelf.front(&at).is_none());
+    fs::remove_dir_all(&rt, "received")?;
+    Ok(())
+}
+
+#[test]
+fn a_body_in_several_files_is_read_ahead(rt: HostRuntime) -> Result<(), Fail> {
+    let (_folder, mut shelf) = new_shelf(&rt, "joined")?;
+    put(&mut shelf, 1, b"abc", b"")?;
+    put(&mut shelf, 2, b"defg", b"")?;
+    let mut hint = hinted(rt.alloc(), &[file(1, 3, 0), file(2, 4, 0)])?;
+    hint.bond = Bond::OneBody;
+    hint.hashed = Some(Algorithm::Sha256);
+    let mut hints = Vec::new(rt.alloc());
+    hints.push(hint)?;
+    let mut shelf = AheadShelf::new(&rt, rt.alloc(), shelf, hints, 1_000_000);
+    assert!(rt; shelf.ready(1).is_none());
+    let Some(joined) = shelf.joined(1) else {
+        assert!(rt; false, "it is read ahead");
+        return Ok(());
+    };
+    assert_eq!(rt; joined.len(), 7);
+    assert!(rt; joined.sha256().is_some());
+    assert!(rt; shelf.joined(1).is_none());
+    fs::remove_dir_all(&rt, "joined")?;
     Ok(())
 }
 

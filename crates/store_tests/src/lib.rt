@@ -7,6 +7,8 @@ mod ahead;
 #[cfg(test)]
 mod cuts;
 #[cfg(test)]
+mod hints;
+#[cfg(test)]
 mod losses;
 #[cfg(test)]
 mod served;

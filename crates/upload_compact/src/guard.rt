@@ -6,7 +6,6 @@ ghost use Rattle.upload_store.specs.Found.{entry_numbers, numbers_of, texts_of};
 ghost use Rattle.upload_compact.specs.Numbers.{Has};
 ghost use Rattle.upload_compact.specs.Guards.{Allows};
 
-use crate::hints::add_hint;
 use crate::numbers::{Numbers, files_in};
 use bodies::Hint;
 use journal::{Error, Journal, Machine};
@@ -14,6 +13,7 @@ use sqlite_disk::Disk;
 use std::alloc::Global;
 use std::io::{self, ErrorKind};
 use upload_journal::{Entry, ReadError, read_entry};
+use upload_store::{Hints, most_ahead};
 
 /// Sees that records name no other files than these.
 #[derive(Drop)]
@@ -23,8 +23,8 @@ pub struct Guard {
     safe: Numbers,
     /// Those that are.
     named: Numbers,
-    /// Which bodies a replay asks for, in order.
-    hints: Vec<Hint>,
+    /// Which bodies a replay asks for.
+    hints: Hints,
 }
 
 /// What the records of a journal name.
@@ -32,7 +32,7 @@ pub struct Guard {
 pub struct Named {
     /// How many files they name.
     pub files: usize,
-    /// Which bodies a replay of them asks for, in order.
+    /// Which bodies a replay of them asks for.
     pub hints: Vec<Hint>,
 }
 
@@ -47,7 +47,7 @@ impl Guard {
             return Err(ErrorKind::InvalidData.into());
         }
         self.named.add_files(files)?;
-        add_hint(&mut self.hints, entry);
+        self.hints.note(entry);
         Ok(())
     }
 }
@@ -87,13 +87,13 @@ pub fn guarded<N: Disk>(
         alloc,
         safe,
         named: Numbers::none(alloc),
-        hints: Vec::new(alloc),
+        hints: Hints::new(alloc, most_ahead(None)),
     };
     if let Err(error) = journal.recover(alloc, &mut guard) {
         return Err(error);
     }
     Ok(Named {
         files: guard.named.len(),
-        hints: guard.hints,
+        hints: guard.hints.into_list(),
     })
 }

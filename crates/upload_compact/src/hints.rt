@@ -2,24 +2,24 @@
 ghost use Rattle.upload_store.specs.Reading.{ReadsOnly};
 
 use bodies::{Hint, Shelf};
-use std::alloc::Global;
-use upload_journal::Entry;
-use upload_store::hint_of;
-
-/// Adds the body that a replay of an entry asks for, if it is one alone. Without memory it is left out.
-pub fn add_hint(hints: &mut Vec<Hint>, entry: &Entry) {
-    if let Some(hint) = hint_of(entry) {
-        let _ = hints.push(hint);
-    }
-}
+use std::alloc::{AllocError, Global};
 
 /// The shelf, which knows what it will be asked for, if there is memory for that.
 pub fn told<S: Shelf>(alloc: Global, shelf: S, hints: &[Hint]) -> S
     ensures { ReadsOnly S.Shelf.held S.Shelf.may_leave S.Shelf.IsClean shelf result }
 {
     let mut shelf = shelf;
-    if let Ok(hints) = Vec::from_slice(alloc, hints) {
+    if let Ok(hints) = copies(alloc, hints) {
         shelf.take_hints(hints);
     }
     shelf
+}
+
+/// Copies of hints.
+fn copies(alloc: Global, hints: &[Hint]) -> Result<Vec<Hint>, AllocError> {
+    let mut copies = Vec::with_capacity(alloc, hints.len())?;
+    for hint in hints {
+        copies.push(hint.copy(alloc)?)?;
+    }
+    Ok(copies)
 }

@@ -98,7 +98,7 @@ fn open_old<D: Disk + Drop, S: Shelf + Drop>(
         Ok(survey) => survey,
         Err(error) => return Err(CompactFault::Old(StoreFault::Journal(error))),
     };
-    let shelf = told(alloc, shelf, &survey.hints);
+    let shelf = told(alloc, shelf, survey.hints.as_slice());
     let mut store = Store::new(alloc, journal, shelf, limits);
     match store.recover(alloc) {
         Ok(replay) => {

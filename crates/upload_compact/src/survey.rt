@@ -5,9 +5,7 @@ ghost use Rattle.upload_store.specs.Found.{entry_numbers};
 ghost use Rattle.upload_compact.specs.Numbers.{Has, HasNone};
 ghost use Rattle.upload_compact.specs.Surveys.{NamesMore, IsSurveyOf};
 
-use crate::hints::add_hint;
 use crate::numbers::{Numbers, files_in};
-use bodies::Hint;
 use journal::{Error, Journal, Machine};
 use sqlite_disk::Disk;
 use std::alloc::{AllocError, Global};
@@ -19,6 +17,7 @@ use upload_journal::{
 };
 use upload_names::{BlobDigest, RepoName, UploadRef};
 use upload_service::Limits;
+use upload_store::{Hints, most_ahead};
 
 /// Bytes that an upload received.
 #[derive(Drop)]
@@ -277,8 +276,8 @@ pub struct Survey {
     pub named: Numbers,
     /// How many records there are.
     pub records: u64,
-    /// Which bodies a replay of them asks for, in order.
-    pub hints: Vec<Hint>,
+    /// Which bodies a replay of them asks for.
+    pub hints: Hints,
 }
 
 impl Survey {
@@ -289,7 +288,7 @@ impl Survey {
             tables: Tables::new(alloc, limits),
             named: Numbers::none(alloc),
             records: 0,
-            hints: Vec::new(alloc),
+            hints: Hints::new(alloc, most_ahead(None)),
         }
     }
 
@@ -299,7 +298,7 @@ impl Survey {
             → Has self.old.named n ⊎ Contains (entry_numbers entry) n }
     {
         self.named.add_files(files_in(&entry))?;
-        add_hint(&mut self.hints, &entry);
+        self.hints.note(&entry);
         match entry {
             Entry::Exchange(exchange) => self.tables.note(time, exchange),
             Entry::NumbersUpTo(_) | Entry::MomentsUpTo(_) => Ok(()),

@@ -1,7 +1,8 @@
 //! Where a replay gets the bodies that aren't in their entries.
 ghost use Rattle.std.specs.Prelude.{◌≡◌, ◌++◌, List, ℕ, OnOk, IfErr, IfSome};
 
-use upload_bytes::{Body, BodyBuilder};
+use upload_bytes::{Body, BodyBuilder, Front};
+use upload_names::UploadRef;
 
 /// Why a body, or a part of one, wasn't read.
 #[derive(Clone, Copy, Debug, Drop, PartialEq, Eq)]
@@ -47,6 +48,28 @@ pub trait Bodies {
         ensures keeps { (first : Self) → keeps first self.old → keeps first self.new }
     {
         let _ = number;
+        None
+    }
+
+    /// The bytes of several files, of which this number's is the first, if they were read already, with their hash: a guess,
+    /// which whoever takes it compares with what he reads. Who reads nothing ahead has none.
+    fn joined(&mut self, first: u64) -> Option<Body>
+        ensures same { (n : ℕ) (bytes : List ℕ) → stands self.old n bytes
+            → stands self.new n bytes }
+        ensures keeps { (first : Self) → keeps first self.old → keeps first self.new }
+    {
+        let _ = first;
+        None
+    }
+
+    /// What an upload has received that is about to be closed, if it was read already, with its hash: a guess, which
+    /// whoever takes it compares. Who reads nothing ahead has none.
+    fn front(&mut self, at: &UploadRef) -> Option<Front>
+        ensures same { (n : ℕ) (bytes : List ℕ) → stands self.old n bytes
+            → stands self.new n bytes }
+        ensures keeps { (first : Self) → keeps first self.old → keeps first self.new }
+    {
+        let _ = at;
         None
     }
 }

@@ -17,7 +17,7 @@ use crate::foreseen::may_come;
 use crate::reading::read_entry;
 use std::alloc::Global;
 use std::marker::Model;
-use upload_bytes::{Body, BodyBuilder, InPlace};
+use upload_bytes::{Body, BodyBuilder, Front, InPlace};
 use upload_names::{BlobDigest, ByteRange, UploadRef};
 use upload_service::{Answer, Ask, Extent, Service};
 
@@ -156,13 +156,21 @@ fn read_files<B: Bodies>(
         → B.stands bodies.new n bytes }
     ensures keeps { (first : B) → B.keeps first bodies.old → B.keeps first bodies.new }
 {
+    let joined = match files {
+        [first, ..] => bodies.joined(first.number),
+        [] => None,
+    };
     let mut body = BodyBuilder::new(alloc, None);
     for file in files {
         if let Err(fault) = read_file(bodies, *file, &mut body) {
             return Err(fault);
         }
     }
-    Ok(body.finish(&InPlace))
+    let body = body.finish(&InPlace);
+    Ok(match joined {
+        Some(joined) => body.hashed_as(&joined),
+        None => body,
+    })
 }
 
 /// The whole body of a request.
@@ -182,6 +190,16 @@ fn read_body<B: Bodies>(alloc: Global, bodies: &mut B, body: KeptBody) -> Result
             }
             read_files(alloc, bodies, files.as_slice())
         }
+    }
+}
+
+/// The same body, hashed behind what its upload has received if that was read already.
+fn hashed_behind(body: Body, front: Option<Front>) -> Body
+    ensures { result ≡ body }
+{
+    match front {
+        Some(front) => body.hashed_behind(front),
+        None => body,
     }
 }
 
@@ -232,7 +250,8 @@ fn ask_of<B: Bodies>(alloc: Global, bodies: &mut B, ask: KeptAsk) -> Result<Ask,
             digest,
             body,
         } => {
-            let body = read_body(alloc, bodies, body)?;
+            let front = bodies.front(&at);
+            let body = hashed_behind(read_body(alloc, bodies, body)?, front);
             let range = extent_of(range);
             let digest = Some(digest);
             Ok(Ask::Close {

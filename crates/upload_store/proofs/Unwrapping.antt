@@ -8,7 +8,7 @@ use Rattle.bodies.specs.declared.shelf.Shelf as shelves
 use Rattle.bodies.specs.declared.ahead.AheadShelf.{AheadShelf}
 use Rattle.bodies.specs.AheadShelf.{inner_of}
 use Rattle.journal.specs.Errors.{Because}
-use Rattle.journal.specs.Format.{Kept, sector, stored}
+use Rattle.journal.specs.Format.{sector, stored}
 use Rattle.journal.specs.Journal as journals
 use Rattle.journal.specs.Reads.{Refuses}
 use Rattle.journal.specs.declared.journal.Journal.{Journal}

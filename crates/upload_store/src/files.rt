@@ -4,8 +4,9 @@ ghost use Rattle.upload_store.specs.Reading.{StandsIn};
 ghost use Rattle.upload_store.specs.Rescuing.{Since, RefusedSince, fault_told};
 
 use bodies::Shelf;
-use upload_bytes::{Body, BodyBuilder, InPlace};
+use upload_bytes::{Body, BodyBuilder, Front, InPlace};
 use upload_journal::{Bodies, BodyFault};
+use upload_names::UploadRef;
 
 /// So many bytes of a file are read at once.
 const PIECE: usize = 65536;
@@ -57,5 +58,13 @@ impl<S: Shelf> Bodies for Files<S> {
 
     fn ready(&mut self, number: u64) -> Option<Body> {
         self.shelf.ready(number)
+    }
+
+    fn joined(&mut self, first: u64) -> Option<Body> {
+        self.shelf.joined(first)
+    }
+
+    fn front(&mut self, at: &UploadRef) -> Option<Front> {
+        self.shelf.front(at)
     }
 }

@@ -21,7 +21,7 @@ mod store;
 pub use ahead::most_ahead;
 pub use crash::CrashShelf;
 pub use fault::{Loss, RefusedRecord, StoreFault};
-pub use hints::hint_of;
+pub use hints::Hints;
 pub use life::{Round, keep_each, live_on, restart};
 pub use losses::{Losses, Salvage};
 pub use store::Store;

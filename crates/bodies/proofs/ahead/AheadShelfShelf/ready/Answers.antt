@@ -3,7 +3,7 @@ use Rattle.bodies.proofs.ahead.AheadShelfShelf.ready.Goals as goal
 
 pub returns-clause-same : goal.returns-clause-same
 returns-clause-same g c =
-    let none = c.take.ensures ∙ c.drop_before.ensures ∙ c.read_on.ensures in
+    let none = c.take.ensures ∙ c.read_on.ensures in
     record {
       each =
           λ n.

@@ -1,4 +1,4 @@
-use Rattle.std.proofs.Common.{◌≡◌, ◌∙◌, Option, Some, None, IfSome, arith}
+use Rattle.std.proofs.Common.{◌∙◌, Option, Some, None, IfSome, arith}
 use Rattle.upload_store.proofs.Rescues.{since_then}
 use Rattle.upload_store.proofs.files.FilesBodies.ready.Goals as goal
 

@@ -1,6 +1,6 @@
 use Rattle.std.proofs.Common.{refl, sym, subst, arith}
 use Rattle.upload_store.specs.Store.{shelf_of}
-use Rattle.upload_store.proofs.Unwrapping.{if_ok_so, if_err_so, ran_under, saved_under, same_under, next_under}
+use Rattle.upload_store.proofs.Unwrapping.{if_ok_so, if_err_so, saved_under, same_under, next_under}
 use Rattle.upload_store.proofs.Unwrapping.{unnamed_under, reads_under, cause_under, any_under, clean_over, clean_under}
 use Rattle.upload_store.proofs.Unwrapping.{open_under, limits_under, line_under, longer_under, faults_under}
 use Rattle.upload_store.proofs.Reading.{reads_none}
