@@ -8,11 +8,10 @@ memory. A figure is the best of the runs. Uploads are compared with `sha256sum` 
 blobs are counted by the second, beside the syncs of a journal alone: two for each request, or for each round of all
 clients, in which each has a request. These clients are wrk's, and each asks as soon as it is answered; if wrk isn't
 installed, one thread of Python sends a request of each before it reads a reply, and is slower than the server. A
-request that changes nothing waits beside uploads of
-four times SIZE: its longest wait, and the longest of a sync beside the same. A start is that of a server with a directory
-that has eight blobs of SIZE, in one body each or in chunks of 4 MiB. `blobd compact` has twenty times COUNT small blobs,
-or eight of SIZE in one body each, and is measured beside a start with them; `--starts` measures no more than starts and
-that. Needs Linux.
+request that changes nothing waits beside uploads of four times SIZE: its longest wait, and the longest of a sync beside
+the same. A start is that of a server with a directory that has eight blobs of SIZE, in one body each or in chunks of
+4 MiB, and that of one which was compacted since. `blobd compact` has twenty times COUNT small blobs, or eight of SIZE in
+one body each, and is measured beside a start with them; `--starts` measures no more than starts and that. Needs Linux.
 """
 import contextlib
 import functools
@@ -249,12 +248,20 @@ def large_blobs(blob, chunk, server):
             loopback.upload(connection, "lib/a", blob, chunk)
 
 
-def started(settings, blob, chunk):
-    """A start with blobs of this size, each sent in chunks of that size: the bytes that it reads in a second, and
-    `sha256sum`'s in the same run."""
+def compact(settings, data):
+    """Has `blobd compact` write the journal of a directory anew."""
+    words, env = [OPTIONS.program, "compact", data], running.environment(settings)
+    subprocess.run(words, env=env, check=True, capture_output=True)
+
+
+def started(settings, blob, chunk, is_compacted=False):
+    """A start with blobs of this size, each sent in chunks of that size, and compacted if that is said: the bytes that it
+    reads in a second, and `sha256sum`'s in the same run."""
     with tempfile.TemporaryDirectory(dir=OPTIONS.folder) as folder:
         server = OnDisk(settings, folder)
         large_blobs(blob, chunk, server)
+        if is_compacted:
+            compact(settings, server.settings["BLOBD_DATA"])
         best = []
         for _ in range(OPTIONS.runs):
             taken = loopback.seconds(lambda: server.__enter__())
@@ -274,9 +281,7 @@ def compacted(settings, fill):
             shutil.copytree(server.settings["BLOBD_DATA"], copy)
             start = loopback.seconds(lambda: server.__enter__())
             server.__exit__()
-            words, env = [OPTIONS.program, "compact", copy], running.environment(settings)
-            work = functools.partial(subprocess.run, words, env=env, check=True, capture_output=True)
-            best.append((loopback.seconds(work), start))
+            best.append((loopback.seconds(functools.partial(compact, settings, copy)), start))
             shutil.rmtree(copy)
     return min(best, key=lambda pair: pair[0] / pair[1])
 
@@ -305,8 +310,9 @@ def all_lines(settings, all_, blob):
         wait, sync = waited(settings, blob)
         beside = f"{wait / sync:.1f} of the longest sync there"
         yield ["a GET beside uploads", OnDisk.name, f"{wait * 1e3:,.1f} ms at most", beside]
-    for name, chunk in (("a start", blob.size), ("a start with chunks", CHUNK)):
-        read, plain = started(settings, blob, chunk)
+    starts = ("a start", blob.size), ("a start with chunks", CHUNK), ("the same, compacted", CHUNK, True)
+    for name, *how in starts:
+        read, plain = started(settings, blob, *how)
         yield [name, OnDisk.name, f"{read / 1e6:,.0f} MB/s", f"{read / plain:.2f} of `sha256sum`"]
     taken, start = compacted(settings, functools.partial(large_blobs, blob, blob.size))
     beside = f"{taken / start:.2f} of a start with them"
