@@ -8,6 +8,7 @@ import contextlib
 import os
 import random
 import re
+import shutil
 import subprocess
 import time
 
@@ -149,6 +150,10 @@ def files_that_no_record_names(folder):
         dry = run("compact", "--dry-run", path, *more)[0]
         check("a dry run", ", 2 of 3 files, 1005 B of 3.0 MiB in them" in dry, dry)
     equal("nothing is changed", files(path) == was, True)
+    copy = os.path.join(folder, "copy")
+    shutil.copytree(path, copy)
+    with serving(copy) as server:
+        equal("a start", server.told(5), f"blobd: {copy}: 2 files of bodies removed, which no record named\n")
     told, status, more = run("compact", path)
     equal("a compaction", (status, more), (0, ""))
     check("it says what went", told.endswith(" 2 files went\n"), told)
@@ -174,7 +179,10 @@ def what_is_refused(folder):
     told, status, more = run("compact", path)
     equal("a damaged one", (told, status, files(path) == before), (*REFUSED, True))
     check("the damage is named", "isn't there" in more, more)
+    lacking = f"blobd: damage in {path}: a body that a record names is missing, or has another length: "
+    check("a dry run of it", run("compact", "--dry-run", path)[2].startswith(lacking))
     os.rename(os.path.join(folder, "body"), os.path.join(path, body))
+    equal("a dry run once it is mended", run("compact", "--dry-run", path)[1:], (0, ""))
     equal("once it is mended", run("compact", path)[1], 0)
     empty = os.path.join(folder, "empty")
     os.mkdir(empty)

@@ -357,7 +357,9 @@ def bodies_of_another_user(folder):
     body, large = filled(path)[0], FILLED[-1]
     os.chmod(body, 0)
     with Server(env={"BLOBD_DATA": path}, stderr=subprocess.PIPE, preexec_fn=heed_modes) as server:
-        lines, end = named_losses(server), f"can't be read: Permission denied (os error 13); lost: blob {sha256(large)} of {NAME}\n"
+        where = os.path.relpath(body, path)
+        end = f"can't be read: Permission denied (os error 13); its body is in {where}; lost: blob {sha256(large)} of {NAME}\n"
+        lines = named_losses(server)
         check("it is named", len(lines) == 1 and lines[0].endswith(end), lines)
         equal("it isn't there", pull(server, NAME, sha256(large)), 404)
     os.chmod(body, 0o600)
@@ -596,7 +598,10 @@ def bodies_of(path):
 
 
 MISSING = "damage in {0}: journal: records are missing at its end: "
-WENT_ON = "{0}: an earlier start went on without records that were missing; no file is removed before `blobd compact {0}`\n"
+WENT_ON = (
+    "{0}: an earlier start went on without records that were missing, or the length of a record was damaged; "
+    "no file is removed before `blobd compact {0}`\n"
+)
 # what `blobd status` says of the end of a journal that is looked at
 AT_THE_END = (
     "blobd: " + MISSING + "it is damaged or cut there, or a copy that was made while a server wrote; "

@@ -3,7 +3,7 @@
 use crate::words::Keep;
 use blobd_data::{
     AnyBodies, CompactingFault, ListFault, Missing, Waste, compact_data, foresee_data, hint_on,
-    read_list, read_status, seconds_now, tell_end, tell_final, weigh_data,
+    read_list, read_status, seconds_now, tell_end, tell_files, tell_final, weigh_data,
 };
 use blobd_serve::limits;
 use blobd_shared::{DONE, FAULT, Quantity, REFUSED, print_line};
@@ -28,9 +28,13 @@ fn print_no_list(rt: &HostRuntime, list: &str, fault: &ListFault) -> u8 {
     print_line(&mut io::writer(rt), "refused: keep", REFUSED)
 }
 
-/// Tells on standard error if records of a directory are missing, of which so much would go, and what goes for good.
+/// Tells on standard error if bodies or records of a directory are missing, of which so much would go, and what goes for
+/// good.
 /// A server may add to its journal meanwhile, so it is looked at again.
 fn tell_its_end(rt: &HostRuntime, path: &str, waste: &Waste) {
+    if !waste.is_whole {
+        tell_files(rt, path);
+    }
     if waste.weight.looked.is_sure() {
         return;
     }

@@ -76,6 +76,17 @@ pub(crate) fn amount_but(files: &[BodyThere], named: &Named) -> Amount {
     amount
 }
 
+/// How many bytes those of these files have that records name.
+pub(crate) fn bytes_in(files: &[BodyThere], named: &Named) -> u64 {
+    let mut bytes: u64 = 0;
+    for file in files {
+        if named.has(file.number) {
+            bytes = bytes.saturating_add(file.len);
+        }
+    }
+    bytes
+}
+
 /// Notes the numbers of the files that a journal names, as it stands, and says how it ends.
 pub(crate) fn note_named<D: Disk>(
     rt: &HostRuntime,

@@ -25,7 +25,7 @@ pub use fault::DataFault;
 pub use host::{Teller, seconds_now};
 pub use keeping_list::{ListFault, read_list};
 pub use line::line_of;
-pub use loss::{tell_end, tell_final, tell_losses, tell_missing};
+pub use loss::{tell_end, tell_files, tell_final, tell_losses, tell_missing};
 pub use open::{AnyBodies, Damaged, Data, Missing, open_data};
 pub use progress::Watch;
 pub use status::{Status, missing_of, read_status};

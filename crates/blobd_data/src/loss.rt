@@ -5,7 +5,9 @@ use blobd_shared::{ByteCount, Quantity};
 use std::io::{self, Eprint};
 use std::{fmt, fs};
 use upload_compact::Amount;
-use upload_journal::{BodyFault, Entry, KeptAsk, KeptExchange, ReplayFault, Told};
+use upload_journal::{
+    BodyFault, BodyFile, Entry, KeptAsk, KeptBody, KeptExchange, ReplayFault, Told,
+};
 use upload_store::{Loss, Losses};
 
 /// What is told of a record that is lost: why, what the system says of that, and what goes with it.
@@ -15,6 +17,10 @@ struct LossText<'a>(&'a Loss, Option<io::Error>);
 /// What an entry stands for. An upload is named by its number, since whoever has its reference can go on with it.
 #[derive(Drop)]
 struct EntryText<'a>(&'a Entry);
+
+/// Which files have the body of an entry, if it is in files.
+#[derive(Drop)]
+struct FilesText<'a>(&'a Entry);
 
 #[derive(Drop)]
 struct ExchangeText<'a>(&'a KeptExchange);
@@ -32,9 +38,41 @@ impl<'a> fmt::Display for LossText<'a> {
             write!(f, ": {error}")?;
         }
         match &loss.entry {
-            Some(entry) => write!(f, "; lost: {}", EntryText(entry)),
+            Some(entry) => write!(f, "{}; lost: {}", FilesText(entry), EntryText(entry)),
             None => Ok(()),
         }
+    }
+}
+
+impl<'a> fmt::Display for FilesText<'a> {
+    fn fmt<W: fmt::Write>(&self, f: &mut fmt::Formatter<W>) -> fmt::Result {
+        let mut before = "; its body is in ";
+        for file in files_of(self.0) {
+            let (number, low) = (file.number, file.number % 256);
+            write!(f, "{before}{BODIES}/{low:02x}/{number}")?;
+            before = ", ";
+        }
+        Ok(())
+    }
+}
+
+/// The files that have the body of a request.
+fn files_of(entry: &Entry) -> &[BodyFile] {
+    let Entry::Exchange(exchange) = entry else {
+        return &[];
+    };
+    match &exchange.ask {
+        KeptAsk::Single { body, .. } => files_in(body),
+        KeptAsk::Chunk { body, .. } => files_in(body),
+        KeptAsk::Close { body, .. } => files_in(body),
+        _ => &[],
+    }
+}
+
+fn files_in(body: &KeptBody) -> &[BodyFile] {
+    match body {
+        KeptBody::InFiles(files) => files.as_slice(),
+        KeptBody::Here(_) => &[],
     }
 }
 
@@ -136,10 +174,25 @@ pub fn tell_final<R: Eprint>(rt: &R, path: &str, unnamed: Amount) {
     );
 }
 
+/// Tells on standard error that files which records of the directory at `path` name are missing, or have another length.
+pub fn tell_files<R: Eprint>(rt: &R, path: &str) {
+    let _ = eprintln!(rt;
+        "blobd: damage in {path}: a body that a record names is missing, or has another length: a start says which, and a compaction is refused"
+    );
+}
+
+/// Tells on standard error how many files a start of the directory at `path` has removed, which no record named.
+pub fn tell_removed<R: Eprint>(rt: &R, path: &str, removed: u64) {
+    if removed > 0 {
+        let files = Quantity(removed, "file");
+        let _ = eprintln!(rt; "blobd: {path}: {files} of bodies removed, which no record named");
+    }
+}
+
 /// Tells that a start has gone on without records of the directory at `path`.
 fn tell_before<R: Eprint>(rt: &R, path: &str) -> io::Result<()> {
     eprintln!(rt;
-        "blobd: {path}: an earlier start went on without records that were missing; no file is removed before `blobd compact {path}`"
+        "blobd: {path}: an earlier start went on without records that were missing, or the length of a record was damaged; no file is removed before `blobd compact {path}`"
     )
 }
 

@@ -10,6 +10,7 @@ ghost use Rattle.blobd_data.specs.Opened.{HasBegun};
 use crate::fault::DataFault;
 use crate::host::seconds_now;
 use crate::line::line_of;
+use crate::loss::tell_removed;
 use crate::progress::{Progress, Watch};
 use bodies::{FolderShelf, Holds, Shelf};
 use journal::{Ending, Journal, Looked};
@@ -260,6 +261,8 @@ struct Found<D: Disk, S: Shelf> {
     /// That of a start from it.
     progress: Progress,
     missing: Missing,
+    /// How many files were removed that no record names.
+    removed: u64,
 }
 
 /// A store in a folder. Files that no record names are removed.
@@ -290,14 +293,14 @@ where
     let mut shelf = open_shelf(rt, folder)?;
     refuse_cut(rt, &mut file, &mut shelf)?;
     let mut journal = Journal::new(file, line_of(limits));
-    let (missing, named) = match sweep(rt.alloc(), &mut journal, &mut shelf) {
+    let (missing, named, removed) = match sweep(rt.alloc(), &mut journal, &mut shelf) {
         Ok(swept) => {
             let time = seconds_now(watch.rt);
             let missing = settle_end(rt, &mut journal, swept.looked, damaged, time)?;
-            (missing, swept.named)
+            (missing, swept.named, swept.removed.unwrap_or(0))
         }
         // Files go only if nothing is missing. What can't be removed now stays for the next start.
-        Err(StoreFault::Body(_)) => (Missing::None, 0),
+        Err(StoreFault::Body(_)) => (Missing::None, 0, 0),
         Err(fault) => return Err(DataFault::Store(fault)),
     };
     let progress = Progress::begin(watch, rt.alloc(), named, shelf.counter());
@@ -310,6 +313,7 @@ where
         store,
         progress,
         missing,
+        removed,
     })
 }
 
@@ -400,7 +404,9 @@ where
         store,
         progress,
         missing,
+        removed,
     } = store_in(watch, rt, &lock, limits, room, start, damaged)?;
+    tell_removed(watch.rt, path, removed);
     let opened = open_store(watch.rt, rt, lock, store, limits, host, damaged, missing);
     progress.end(watch.rt);
     let opened = opened?;

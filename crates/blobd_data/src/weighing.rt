@@ -1,7 +1,7 @@
 //! How much would go from a data directory as it is compacted.
 use crate::compacting::CompactingFault;
 use crate::fault::DataFault;
-use crate::files::{amount_but, list_files, note_named};
+use crate::files::{BodyThere, amount_but, bytes_in, list_files, note_named};
 use crate::status::look_at_journal;
 use blobd_shared::{ByteCount, Quantity};
 use journal::Journal;
@@ -19,6 +19,8 @@ pub struct Waste {
     pub weight: Weight,
     /// The files that no record names.
     pub unnamed: Amount,
+    /// Whether the files that records name are all there, with as many bytes as these say.
+    pub is_whole: bool,
 }
 
 impl fmt::Display for Waste {
@@ -59,22 +61,30 @@ fn sound(weight: Result<Weight, journal::Error>) -> Result<Weight, CompactingFau
     }
 }
 
-/// The files of the directory at `path` that no record of its journal names. They are listed before the journal is
-/// read: a server that has the directory makes a file before it names it.
+/// The files of bodies in the directory at `path`.
+fn files_in(rt: &HostRuntime, path: &str) -> Result<Vec<BodyThere>, CompactingFault> {
+    match list_files(rt, path) {
+        Ok(files) => Ok(files),
+        Err(fault) => Err(CompactingFault::Data(DataFault::Bodies(fault))),
+    }
+}
+
+/// The files of the directory at `path` that no record of its journal names, and whether those that one names are whole.
+/// They are listed before the journal is read: a server that has the directory makes a file before it names it. So one
+/// that seems to be missing is looked for again.
 fn unnamed_in<J: Start>(
     rt: &HostRuntime,
     path: &str,
     journal: &mut Journal<FileFrom<J>>,
-) -> Result<Amount, CompactingFault> {
-    let files = match list_files(rt, path) {
-        Ok(files) => files,
-        Err(fault) => return Err(CompactingFault::Data(DataFault::Bodies(fault))),
-    };
+) -> Result<(Amount, bool), CompactingFault> {
+    let files = files_in(rt, path)?;
     let mut named = Named::new(rt.alloc());
-    match note_named(rt, journal, &mut named) {
-        Ok(_) => Ok(amount_but(&files, &named)),
-        Err(fault) => Err(CompactingFault::Data(DataFault::Store(fault))),
+    if let Err(fault) = note_named(rt, journal, &mut named) {
+        return Err(CompactingFault::Data(DataFault::Store(fault)));
     }
+    let is_whole = bytes_in(&files, &named) == named.bytes()
+        || bytes_in(&files_in(rt, path)?, &named) == named.bytes();
+    Ok((amount_but(&files, &named), is_whole))
 }
 
 /// What the records of the data directory at `path` come to, as `weigh_data` reads them.
@@ -100,9 +110,13 @@ pub fn weigh_data<J: Start>(
     start: J,
 ) -> Result<Waste, CompactingFault> {
     let mut journal = look(rt, path, limits, start)?;
-    let unnamed = unnamed_in(rt, path, &mut journal)?;
+    let (unnamed, is_whole) = unnamed_in(rt, path, &mut journal)?;
     let weight = sound(weigh(rt.alloc(), &mut journal, limits))?;
-    Ok(Waste { weight, unnamed })
+    Ok(Waste {
+        weight,
+        unnamed,
+        is_whole,
+    })
 }
 
 /// What would go from the data directory at `path`, of a service with these limits, with what nothing refers to: the
@@ -115,12 +129,17 @@ pub fn foresee_data<J: Start>(
     leaving: &Leaving,
 ) -> Result<(Vec<Pair>, Waste), CompactingFault> {
     let mut journal = look(rt, path, limits, start)?;
-    let unnamed = unnamed_in(rt, path, &mut journal)?;
+    let (unnamed, is_whole) = unnamed_in(rt, path, &mut journal)?;
     let (gone, weight) = match foresee(rt.alloc(), &mut journal, limits, leaving) {
         Ok(Forecast { gone, weight }) => (gone, sound(Ok(weight))?),
         Err(error) => return Err(CompactingFault::Data(DataFault::Store(StoreFault::Journal(
             error,
         )))),
     };
-    Ok((gone, Waste { weight, unnamed }))
+    let waste = Waste {
+        weight,
+        unnamed,
+        is_whole,
+    };
+    Ok((gone, waste))
 }
