@@ -29,8 +29,7 @@ fn print_no_list(rt: &HostRuntime, list: &str, fault: &ListFault) -> u8 {
 }
 
 /// Tells on standard error if bodies or records of a directory are missing, of which so much would go, and what goes for
-/// good.
-/// A server may add to its journal meanwhile, so it is looked at again.
+/// good. A server may add to its journal meanwhile, so it is looked at again.
 fn tell_its_end(rt: &HostRuntime, path: &str, waste: &Waste) {
     if !waste.is_whole {
         tell_files(rt, path);
