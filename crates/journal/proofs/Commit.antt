@@ -8,7 +8,7 @@ use Rattle.std.proofs.lemmas.List.{take_at, drop_at, append-nil, nil_from_length
 use Rattle.std.proofs.Math.Seq.{take-add}
 use Rattle.sqlite_disk.specs.Disk.{Holds, Torn, Follows}
 use Rattle.journal.specs.Format.{Kept, sector, whole, number_of, number_bytes, head, number_in, time_in, length_in}
-use Rattle.journal.specs.Format.{span, records, behind, next, batches, stored, Lie, Rests, IsBeforeOrAfter}
+use Rattle.journal.specs.Format.{numbers, sum_of, sum_in, sum_here, span, records, behind, next, batches, stored, Lie, Rests, IsBeforeOrAfter}
 use Rattle.journal.specs.Gate.{IsStaged}
 use Rattle.journal.specs.Reads.{EndsAt}
 use Rattle.journal.proofs.Reading.{length-number_bytes, number_of-number_bytes}
@@ -109,6 +109,31 @@ all_rest line all end len at n old new past follows each c left =
     let from = follows c left in
     still_rests line all end len at n from.0 c past from.2 (each from.0 from.1)
 
+pub numbers_long : (number time len : ℕ) → length (numbers number time len) ≡ 24
+numbers_long number time len =
+    omega (
+      arith,
+      length-append (number_bytes number) (number_bytes time ++ number_bytes len),
+      length-append (number_bytes time) (number_bytes len),
+      length-number_bytes number,
+      length-number_bytes time,
+      length-number_bytes len,
+    )
+
+pub head_long : (number time len : ℕ) → length (head number time len) ≡ 32
+head_long number time len =
+    let all = numbers number time len in
+    omega (
+      arith,
+      length-append all (number_bytes (sum_of all)),
+      numbers_long number time len,
+      length-number_bytes (sum_of all),
+    )
+
+sum_fits : (bytes : List ℕ) → sum_of bytes < 2 ^ 64
+unfolding sum_of
+sum_fits bytes = omega arith
+
 -- the head and the records of a batch, and whatever fills their last sector
 module _ (number time : ℕ) (bytes pad : List ℕ) (number_fits : number < 2 ^ 64) (time_fits : time < 2 ^ 64)
     (long : length bytes < 2 ^ 64) where
@@ -121,63 +146,73 @@ module _ (number time : ℕ) (bytes pad : List ℕ) (number_fits : number < 2 ^ 
   eight : (n : ℕ) → length (number_bytes n) ≡ 8
   eight = length-number_bytes
 
-  split : it ≡ number_bytes number ++ (number_bytes time ++ (number_bytes (length bytes) ++ behind_head))
+  abbrev all_numbers : List ℕ
+  all_numbers = numbers number time (length bytes)
+
+  abbrev sum : ℕ
+  sum = sum_of all_numbers
+
+  -- what stands behind each of its numbers
+  abbrev from_sum : List ℕ
+  from_sum = number_bytes sum ++ behind_head
+
+  abbrev from_length : List ℕ
+  from_length = number_bytes (length bytes) ++ from_sum
+
+  abbrev from_time : List ℕ
+  from_time = number_bytes time ++ from_length
+
+  in_front : it ≡ all_numbers ++ from_sum
+  in_front =
+      append_assoc (head number time (length bytes)) bytes pad ∙ append_assoc all_numbers (number_bytes sum) behind_head
+
+  split : it ≡ number_bytes number ++ from_time
   split =
-      append_assoc (head number time (length bytes)) bytes pad ∙ append_assoc (number_bytes number)
-      (number_bytes time ++ number_bytes (length bytes)) behind_head
+      in_front ∙ append_assoc (number_bytes number) (number_bytes time ++ number_bytes (length bytes)) from_sum
       ∙ ap (λ (l : List ℕ). number_bytes number ++ l)
-      (append_assoc (number_bytes time) (number_bytes (length bytes)) behind_head)
+      (append_assoc (number_bytes time) (number_bytes (length bytes)) from_sum)
 
-  number_is : number_in it ≡ number
-  number_is =
-      ap (λ (l : List ℕ). number_of (take 8 l)) split
-      ∙ ap number_of (take_at (number_bytes number)
-      (number_bytes time ++ (number_bytes (length bytes) ++ behind_head)) 8 (eight number)) ∙
-      number_of-number_bytes number number_fits
+  -- a number at the front is read, and what follows it
+  read_off : (at n : ℕ) (rest : List ℕ) → n < 2 ^ 64 → drop at it ≡ number_bytes n ++ rest
+      → (number_of (take 8 (drop at it)) ≡ n) × (drop (at + 8) it ≡ rest)
+  read_off at n rest fits is = (
+    ap (λ (l : List ℕ). number_of (take 8 l)) is ∙ ap number_of (take_at (number_bytes n) rest 8 (eight n))
+        ∙ number_of-number_bytes n fits,
+    sym (drop-drop 8 at it) ∙ ap (λ (l : List ℕ). drop 8 l) is ∙ drop_at (number_bytes n) rest 8 (eight n),
+  )
 
-  behind_number : drop 8 it ≡ number_bytes time ++ (number_bytes (length bytes) ++ behind_head)
-  behind_number =
-      ap (λ (l : List ℕ). drop 8 l) split ∙ drop_at (number_bytes number)
-      (number_bytes time ++ (number_bytes (length bytes) ++ behind_head)) 8 (eight number)
+  off_number : (number_in it ≡ number) × (drop 8 it ≡ from_time)
+  off_number = read_off 0 number from_time number_fits split
 
-  time_is : time_in it ≡ time
-  time_is =
-      ap (λ (l : List ℕ). number_of (take 8 l)) behind_number
-      ∙ ap number_of (take_at (number_bytes time) (number_bytes (length bytes) ++ behind_head) 8 (eight time)) ∙
-      number_of-number_bytes time time_fits
+  off_time : (time_in it ≡ time) × (drop 16 it ≡ from_length)
+  off_time = read_off 8 time from_length time_fits off_number.1
 
-  behind_time : drop 16 it ≡ number_bytes (length bytes) ++ behind_head
-  behind_time =
-      sym (drop-drop 8 8 it) ∙ ap (λ (l : List ℕ). drop 8 l) behind_number ∙ drop_at (number_bytes time)
-      (number_bytes (length bytes) ++ behind_head) 8 (eight time)
+  off_length : (length_in it ≡ length bytes) × (drop 24 it ≡ from_sum)
+  off_length = read_off 16 (length bytes) from_sum long off_time.1
 
-  length_is : length_in it ≡ length bytes
-  length_is =
-      ap (λ (l : List ℕ). number_of (take 8 l)) behind_time
-      ∙ ap number_of (take_at (number_bytes (length bytes)) behind_head 8 (eight (length bytes))) ∙
-      number_of-number_bytes (length bytes) long
+  off_sum : (sum_in it ≡ sum) × (drop 32 it ≡ behind_head)
+  off_sum = read_off 24 sum behind_head (sum_fits all_numbers) off_length.1
 
-  behind_length : drop 24 it ≡ behind_head
-  behind_length =
-      sym (drop-drop 8 16 it) ∙ ap (λ (l : List ℕ). drop 8 l) behind_time ∙ drop_at (number_bytes (length bytes))
-      behind_head 8 (eight (length bytes))
+  sum_is : sum_in it ≡ sum_here it
+  sum_is = off_sum.0 ∙ ap sum_of (sym (ap (λ (l : List ℕ). take 24 l) in_front
+      ∙ take_at all_numbers from_sum 24 (numbers_long number time (length bytes))))
 
-  body_is : take (length_in it) (drop 24 it) ≡ bytes
-  body_is = ap (λ (l : List ℕ). take (length_in it) l) behind_length ∙ take_at bytes pad (length_in it) (sym length_is)
+  body_is : take (length_in it) (drop 32 it) ≡ bytes
+  body_is = ap (λ (l : List ℕ). take (length_in it) l) off_sum.1 ∙ take_at bytes pad (length_in it) (sym off_length.0)
 
-  pub behind_written : length it ≡ whole (24 + length bytes) → behind number it ≡ Some ((time, records bytes), [])
+  pub behind_written : length it ≡ whole (32 + length bytes) → behind number it ≡ Some ((time, records bytes), [])
   behind_written padded =
-      let span_is : span it ≡ whole (24 + length bytes) = ap (λ (n : ℕ). whole (24 + n)) length_is in
+      let span_is : span it ≡ whole (32 + length bytes) = ap (λ (n : ℕ). whole (32 + n)) off_length.0 in
       let nothing : drop (span it) it ≡ [] = nil_from_length (drop (span it) it)
       (omega (arith, span_is, padded, length-drop (span it) it)) in
-      behind_there number it number_is (omega (arith, span_is, padded)) ∙
-      (λ i. Some ((time_is i, records (body_is i)), nothing i))
+      behind_there number it off_number.0 sum_is (omega (arith, span_is, padded)) ∙
+      (λ i. Some ((off_time.0 i, records (body_is i)), nothing i))
 
 -- a batch that was written behind a gate, and then a shut gate behind it
 module _ (gate number time : ℕ) (bytes first second : List ℕ) (number_fits : number < 2 ^ 64)
     (time_fits : time < 2 ^ 64) (long : length bytes < 2 ^ 64) where
   abbrev width : ℕ
-  width = whole (24 + length bytes)
+  width = whole (32 + length bytes)
 
   abbrev after_it : ℕ
   after_it = gate + sector + width
@@ -188,35 +223,30 @@ module _ (gate number time : ℕ) (bytes first second : List ℕ) (number_fits :
     abbrev text : List ℕ
     text = head number time (length bytes) ++ bytes
 
-    text_long : length text ≡ 24 + length bytes
+    text_long : length text ≡ 32 + length bytes
     text_long =
-        omega (
-          arith,
-          length-append (head number time (length bytes)) bytes,
-          length-append (number_bytes number)
-              (number_bytes time ++ number_bytes (length bytes)),
-          length-append (number_bytes time)
-              (number_bytes (length bytes)),
-          length-number_bytes number,
-          length-number_bytes time,
-          length-number_bytes
-              (length bytes),
-        )
+        omega (arith, length-append (head number time (length bytes)) bytes, head_long number time (length bytes))
 
     still : Holds second (gate + sector) text
     still =
         holds_still (gate + sector) after_it sector text first second
-        (let w = is_whole (24 + length bytes) in omega (arith, text_long, w.no_less)) torn holds
+        (let w = is_whole (32 + length bytes) in omega (arith, text_long, w.no_less)) torn holds
 
     abbrev place : List ℕ
     place = drop (gate + sector) second
+
+    pub headed : take 32 place ≡ head number time (length bytes)
+    headed =
+        sym (take_within place 0 32 (length text) (omega (arith, text_long)))
+        ∙ ap (λ (l : List ℕ). take 32 l) (held second (gate + sector) text still)
+        ∙ take_at (head number time (length bytes)) bytes 32 (head_long number time (length bytes))
 
     abbrev fills : ℕ
     fills = width - length text
 
     region : take width place ≡ text ++ take fills (drop (length text) place)
     region =
-        let w = is_whole (24 + length bytes) in
+        let w = is_whole (32 + length bytes) in
         let sum : width ≡ length text + fills = omega (arith, text_long, w.no_less) in
         ap (λ (n : ℕ). take n place) sum ∙ take-add (length text) fills place ∙ ap
         (λ (l : List ℕ). l ++ take fills (drop (length text) place)) (held second (gate + sector) text still)
@@ -231,7 +261,7 @@ module _ (gate number time : ℕ) (bytes first second : List ℕ) (number_fits :
           ap (λ (n : ℕ). behind number (take n place)) n_is ∙ ap (behind number) region
           ∙ behind_written number time bytes (take fills (drop (length text) place)) number_fits time_fits long
           (ap length (sym region) ∙ region_long);
-      after = let w = is_whole (24 + length bytes) in omega (arith, w.no_less);
+      after = let w = is_whole (32 + length bytes) in omega (arith, w.no_less);
       within = fits;
       shut = gate_shut;
     }
@@ -322,26 +352,26 @@ rests_longer line all end len len2 file rests within there =
 -- a whole commit: from a batch that lies behind its gate to what the write of the gate left
 module _ (line : List ℕ) (old : List Kept) (end len count time : ℕ) (bytes items staged_file now : List ℕ)
     (rests : Rests line old end len staged_file)
-    (stage : IsStaged end (end + sector + whole (24 + length bytes)) count (time, records bytes) staged_file)
+    (stage : IsStaged end (end + sector + whole (32 + length bytes)) count (time, records bytes) staged_file)
     (count_is : count ≡ length old) (same : bytes ≡ items)
     (torn : Torn end sector staged_file now) where
-  stage_here : IsStaged end (end + sector + whole (24 + length bytes)) (length old) (time, records items) staged_file
+  stage_here : IsStaged end (end + sector + whole (32 + length bytes)) (length old) (time, records items) staged_file
   stage_here =
-      subst (λ (n : ℕ). IsStaged end (end + sector + whole (24 + length bytes)) n (time, records items) staged_file)
+      subst (λ (n : ℕ). IsStaged end (end + sector + whole (32 + length bytes)) n (time, records items) staged_file)
       count_is
-      (subst (λ (l : List ℕ). IsStaged end (end + sector + whole (24 + length bytes)) count (time, records l)
+      (subst (λ (l : List ℕ). IsStaged end (end + sector + whole (32 + length bytes)) count (time, records l)
       staged_file) same stage)
 
   pub either : IsBeforeOrAfter old (time, records items) now
   either =
-      before_or_after line old end len (end + sector + whole (24 + length bytes)) (time, records items) staged_file
+      before_or_after line old end len (end + sector + whole (32 + length bytes)) (time, records items) staged_file
       rests stage_here now torn
 
   pub committed : slice_index now end ≡ 1 → (behind_it len2 : ℕ) → behind_it ≡ end + sector + whole
-      (24 + length bytes) → len2 ≡ max len (behind_it + sector)
+      (32 + length bytes) → len2 ≡ max len (behind_it + sector)
       → Rests line (old ++ (time, records items) ∷ []) behind_it len2 now
   committed open_gate behind_it len2 place longer =
-      let done = if_open line old end len (end + sector + whole (24 + length bytes)) (time, records items) staged_file
+      let done = if_open line old end len (end + sector + whole (32 + length bytes)) (time, records items) staged_file
       rests stage_here now torn open_gate in
       rests_longer line (old ++ (time, records items) ∷ []) behind_it (behind_it + sector) len2 now
       (subst (λ (n : ℕ). Rests line (old ++ (time, records items) ∷ []) n (n + sector) now) (sym place) done)

@@ -4,6 +4,7 @@ pub mod Batches
 pub mod Listing
 pub mod Tears
 pub mod Commit
+pub mod Back
 pub mod Pieces
 pub mod Scan
 pub mod Repaired

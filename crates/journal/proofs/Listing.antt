@@ -1,12 +1,12 @@
 -- What batches stand for that lie one behind the other.
-use Rattle.std.proofs.Common.{◌≡◌, ◌≢◌, ◌⊎◌, inl, inr, ℕ, zero, suc, ◌+◌, ◌%◌, ◌<◌, ◌≤◌, Bool}
+use Rattle.std.proofs.Common.{◌≡◌, ◌≢◌, ◌⊎◌, inl, inr, ℕ, zero, suc, ◌+◌, ◌%◌, ◌<◌, ◌≤◌, Bool, true, false}
 use Rattle.std.proofs.Common.{cond, ◌&&◌, nat_le, eqb, List, [], ◌∷◌, ◌++◌, length, take, drop}
 use Rattle.std.proofs.Common.{slice_index, Option, Some, None, refl, sym, ◌∙◌, ap, arith, append_assoc, length-append}
 use Rattle.std.proofs.Common.{length-take, length-drop, get_or-take}
 use Rattle.std.proofs.lemmas.List.{take-append-le, drop-append-le, get_or_append_left}
 use Rattle.std.proofs.lemmas.List.{nil_from_length, drop-take}
 use Rattle.std.proofs.lemmas.Bool.{cases_Bool, le-leb, eq-eqb, eqb-true, lt-leb, cases_eq, cases_lt}
-use Rattle.journal.specs.Format.{Kept, sector, whole, number_of, number_in, time_in, length_in}
+use Rattle.journal.specs.Format.{Kept, sector, whole, number_of, number_in, time_in, length_in, sum_in, sum_here, sum_of}
 use Rattle.journal.specs.Format.{span, records, behind, next, staged, with_more, one_by_one, batches, Lie}
 use Rattle.journal.proofs.Places.{take_within}
 
@@ -21,41 +21,64 @@ is_whole n = record { no_less = omega arith; no_more = omega arith; even = omega
 
 -- a batch takes a sector at least
 pub span_some : (bytes : List ℕ) → 4096 ≤ span bytes
-span_some bytes = let w = is_whole (24 + length_in bytes) in omega (arith, w.no_less, w.even)
+span_some bytes = let w = is_whole (32 + length_in bytes) in omega (arith, w.no_less, w.even)
 
 -- what stands behind a gate, if all of it is there
 abbrev pub there : List ℕ → Kept × List ℕ
-there bytes = ((time_in bytes, records (take (length_in bytes) (drop 24 bytes))), drop (span bytes) bytes)
+there bytes = ((time_in bytes, records (take (length_in bytes) (drop 32 bytes))), drop (span bytes) bytes)
 
-pub behind_there : (number : ℕ) (bytes : List ℕ) → number_in bytes ≡ number → span bytes ≤ length bytes → behind
-    number bytes ≡ Some (there bytes)
+-- what is read behind a gate, by what was found of its number, its sum and its room
+abbrev by_cases : List ℕ → Bool → Bool → Bool → Option (Kept × List ℕ)
+by_cases bytes number sum room = cond (number && (sum && room)) (Some (there bytes)) None
+
+pub behind_there : (number : ℕ) (bytes : List ℕ) → number_in bytes ≡ number → sum_in bytes ≡ sum_here bytes
+    → span bytes ≤ length bytes → behind number bytes ≡ Some (there bytes)
 unfolding behind
-behind_there number bytes same fits =
-    ap (λ (b : Bool). cond (b && nat_le (span bytes) (length bytes)) (Some (there bytes)) None)
-    (eq-eqb (number_in bytes) number same)
-    ∙ ap (λ (b : Bool). cond b (Some (there bytes)) None) (le-leb (span bytes) (length bytes) fits)
+behind_there number bytes same sum fits =
+    (λ i. by_cases bytes (eq-eqb (number_in bytes) number same i) (eq-eqb (sum_in bytes) (sum_here bytes) sum i)
+    (le-leb (span bytes) (length bytes) fits i))
 
 pub behind_other : (number : ℕ) (bytes : List ℕ) → number_in bytes ≢ number → behind number bytes ≡ None
 unfolding behind
 behind_other number bytes other =
     elim (cases_Bool (eqb (number_in bytes) number)) [
       | inl same ↦ absurd (other (eqb-true (number_in bytes) number same))
-      | inr not ↦ ap (λ (b : Bool). cond (b && nat_le (span bytes) (length bytes)) (Some (there bytes)) None) not
+      | inr not ↦ ap (λ (b : Bool). by_cases bytes b (eqb (sum_in bytes) (sum_here bytes))
+          (nat_le (span bytes) (length bytes))) not
+    ]
+
+none_anyway : (bytes : List ℕ) (b c : Bool) → by_cases bytes b false c ≡ None
+none_anyway bytes true c = refl
+none_anyway bytes false c = refl
+
+none_short : (bytes : List ℕ) (b c : Bool) → by_cases bytes b c false ≡ None
+none_short bytes true true = refl
+none_short bytes true false = refl
+none_short bytes false c = refl
+
+pub behind_changed : (number : ℕ) (bytes : List ℕ) → sum_in bytes ≢ sum_here bytes → behind number bytes ≡ None
+unfolding behind
+behind_changed number bytes other =
+    let room = nat_le (span bytes) (length bytes) in
+    elim (cases_Bool (eqb (sum_in bytes) (sum_here bytes))) [
+      | inl same ↦ absurd (other (eqb-true (sum_in bytes) (sum_here bytes) same))
+      | inr not ↦
+          ap (λ (b : Bool). by_cases bytes (eqb (number_in bytes) number) b room) not
+          ∙ none_anyway bytes (eqb (number_in bytes) number) room
     ]
 
 pub behind_short : (number : ℕ) (bytes : List ℕ) → length bytes < span bytes → behind number bytes ≡ None
 unfolding behind
 behind_short number bytes short =
-    elim (cases_Bool (eqb (number_in bytes) number)) [
-      | inl same ↦
-          ap (λ (b : Bool). cond (b && nat_le (span bytes) (length bytes)) (Some (there bytes)) None) same
-          ∙ ap (λ (b : Bool). cond b (Some (there bytes)) None) (lt-leb (span bytes) (length bytes) short)
-      | inr not ↦ ap (λ (b : Bool). cond (b && nat_le (span bytes) (length bytes)) (Some (there bytes)) None) not
-    ]
+    let same = eqb (number_in bytes) number in
+    let sum = eqb (sum_in bytes) (sum_here bytes) in
+    ap (λ (b : Bool). by_cases bytes same sum b) (lt-leb (span bytes) (length bytes) short)
+    ∙ none_short bytes same sum
 
 -- a batch that is found, and why
 pub record IsThere (number : ℕ) (bytes : List ℕ) (found : Kept × List ℕ) : Type 0 where
   pub number_is : number_in bytes ≡ number
+  pub sum_is : sum_in bytes ≡ sum_here bytes
   pub fits : span bytes ≤ length bytes
   pub is : there bytes ≡ found
 
@@ -64,16 +87,44 @@ pub is_there : (number : ℕ) (bytes : List ℕ) (found : Kept × List ℕ) → 
 is_there number bytes found is =
     elim (cases_eq (number_in bytes) number) [
       | inr other ↦ absurd (cc (sym (behind_other number bytes other) ∙ is))
-      | inl same ↦ elim (cases_lt (length bytes) (span bytes)) [
-        | inl short ↦ absurd (cc (sym (behind_short number bytes short) ∙ is))
-        | inr fits ↦ record {
-          number_is = same;
-          fits = fits;
-          is = let e : Some (there bytes) ≡ Some found = sym
-              (behind_there number bytes same fits) ∙ is in cc;
-        }
+      | inl same ↦ elim (cases_eq (sum_in bytes) (sum_here bytes)) [
+        | inr changed ↦ absurd (cc (sym (behind_changed number bytes changed) ∙ is))
+        | inl sum ↦ elim (cases_lt (length bytes) (span bytes)) [
+          | inl short ↦ absurd (cc (sym (behind_short number bytes short) ∙ is))
+          | inr fits ↦ record {
+            number_is = same;
+            sum_is = sum;
+            fits = fits;
+            is = let e : Some (there bytes) ≡ Some found = sym
+                (behind_there number bytes same sum fits) ∙ is in cc;
+          }
+        ]
       ]
     ]
+
+-- bytes that begin with the same head have its numbers and its sum
+pub record SameHead (p q : List ℕ) : Type 0 where
+  pub number : number_in p ≡ number_in q
+  pub time : time_in p ≡ time_in q
+  pub len : length_in p ≡ length_in q
+  pub sum : sum_in p ≡ sum_in q
+  pub numbers : take 24 p ≡ take 24 q
+
+pub sum_goes_on : (p q : List ℕ) → SameHead p q → sum_in q ≡ sum_here q → sum_in p ≡ sum_here p
+sum_goes_on p q same is = same.sum ∙ is ∙ ap sum_of (sym same.numbers)
+
+pub same_head : (p q : List ℕ) → take 32 p ≡ take 32 q → SameHead p q
+same_head p q is =
+    let part = λ (k : ℕ) (low : k + 8 ≤ 32). sym (take_within p k 8 32 low) ∙ ap
+    (λ (l : List ℕ). take 8 (drop k l)) is ∙ take_within q k 8 32 low in
+    record {
+      number = ap number_of (part 0 (omega arith));
+      time = ap number_of (part 8 (omega arith));
+      len = ap number_of (part 16 (omega arith));
+      sum = ap number_of (part 24 (omega arith));
+      numbers = sym (take_within p 0 24 32 (omega arith)) ∙ ap (λ (l : List ℕ). take 24 l) is
+          ∙ take_within q 0 24 32 (omega arith);
+    }
 
 -- what follows it doesn't matter
 pub behind_more : (number : ℕ) (p q : List ℕ) (found : Kept × List ℕ) → behind number p ≡ Some found → behind number
@@ -81,24 +132,19 @@ pub behind_more : (number : ℕ) (p q : List ℕ) (found : Kept × List ℕ) →
 behind_more number p q found is =
     let it = is_there number p found is in
     let some = span_some p in
-    let wide = is_whole (24 + length_in p) in
-    let long : 24 + length_in p ≤ length p = omega (arith, it.fits, wide.no_less) in
-    let number_same : number_in (p ++ q) ≡ number_in p = ap number_of (take-append-le 8 p q (omega arith)) in
-    let time_same : time_in (p ++ q) ≡ time_in p =
-    ap (λ (l : List ℕ). number_of (take 8 l)) (drop-append-le 8 p q (omega arith)) ∙ ap number_of
-    (take-append-le 8 (drop 8 p) q (omega (arith, length-drop 8 p))) in
-    let length_same : length_in (p ++ q) ≡ length_in p =
-    ap (λ (l : List ℕ). number_of (take 8 l)) (drop-append-le 16 p q (omega arith)) ∙ ap number_of
-    (take-append-le 8 (drop 16 p) q (omega (arith, length-drop 16 p))) in
-    let span_same : span (p ++ q) ≡ span p = ap (λ (n : ℕ). whole (24 + n)) length_same in
-    let body_same : take (length_in (p ++ q)) (drop 24 (p ++ q)) ≡ take (length_in p) (drop 24 p) =
-    ap (λ (n : ℕ). take n (drop 24 (p ++ q))) length_same ∙ ap (λ (l : List ℕ). take (length_in p) l)
-    (drop-append-le 24 p q (omega arith))
-    ∙ take-append-le (length_in p) (drop 24 p) q (omega (arith, length-drop 24 p)) in
+    let wide = is_whole (32 + length_in p) in
+    let long : 32 + length_in p ≤ length p = omega (arith, it.fits, wide.no_less) in
+    let same = same_head (p ++ q) p (take-append-le 32 p q (omega arith)) in
+    let span_same : span (p ++ q) ≡ span p = ap (λ (n : ℕ). whole (32 + n)) same.len in
+    let body_same : take (length_in (p ++ q)) (drop 32 (p ++ q)) ≡ take (length_in p) (drop 32 p) =
+    ap (λ (n : ℕ). take n (drop 32 (p ++ q))) same.len ∙ ap (λ (l : List ℕ). take (length_in p) l)
+    (drop-append-le 32 p q (omega arith))
+    ∙ take-append-le (length_in p) (drop 32 p) q (omega (arith, length-drop 32 p)) in
     let rest_same : drop (span (p ++ q)) (p ++ q) ≡ drop (span p) p ++ q =
     ap (λ (n : ℕ). drop n (p ++ q)) span_same ∙ drop-append-le (span p) p q it.fits in
-    behind_there number (p ++ q) (number_same ∙ it.number_is) (omega (arith, span_same, it.fits, length-append p q))
-    ∙ (λ i. Some ((time_same i, records (body_same i)), rest_same i))
+    behind_there number (p ++ q) (same.number ∙ it.number_is) (sum_goes_on (p ++ q) p same it.sum_is)
+    (omega (arith, span_same, it.fits, length-append p q))
+    ∙ (λ i. Some ((same.time i, records (body_same i)), rest_same i))
     ∙ ap (λ (f : Kept × List ℕ). Some (f.0, f.1 ++ q)) it.is
 
 pub next_open : (number : ℕ) (bytes : List ℕ) → slice_index bytes 0 ≡ 1 → next number bytes ≡ behind number
@@ -245,23 +291,20 @@ pub behind_front : (number : ℕ) (bytes : List ℕ) (found : Kept × List ℕ) 
 behind_front number bytes found is =
     let it = is_there number bytes found is in
     let some = span_some bytes in
-    let wide = is_whole (24 + length_in bytes) in
+    let wide = is_whole (32 + length_in bytes) in
     let part = take (span bytes) bytes in
     let part_long : length (take (span bytes) bytes) ≡ span bytes = omega
     (arith, length-take (span bytes) bytes, it.fits) in
-    let number_same : number_in part ≡ number_in bytes = ap number_of
-    (take_within bytes 0 8 (span bytes) (omega arith)) in
-    let time_same : time_in part ≡ time_in bytes = ap number_of (take_within bytes 8 8 (span bytes) (omega arith)) in
-    let length_same : length_in part ≡ length_in bytes = ap number_of
-    (take_within bytes 16 8 (span bytes) (omega arith)) in
-    let span_same : span part ≡ span bytes = ap (λ (n : ℕ). whole (24 + n)) length_same in
-    let body_same : take (length_in part) (drop 24 part) ≡ take (length_in bytes) (drop 24 bytes) =
-    ap (λ (n : ℕ). take n (drop 24 part)) length_same ∙ take_within bytes 24 (length_in bytes) (span bytes)
+    let same = same_head part bytes (take_within bytes 0 32 (span bytes) (omega arith)) in
+    let span_same : span part ≡ span bytes = ap (λ (n : ℕ). whole (32 + n)) same.len in
+    let body_same : take (length_in part) (drop 32 part) ≡ take (length_in bytes) (drop 32 bytes) =
+    ap (λ (n : ℕ). take n (drop 32 part)) same.len ∙ take_within bytes 32 (length_in bytes) (span bytes)
     (omega (arith, wide.no_less)) in
     let nothing : drop (span part) part ≡ [] = nil_from_length (drop (span part) part)
     (omega (arith, part_long, span_same, length-drop (span part) part)) in
-    behind_there number part (number_same ∙ it.number_is) (omega (arith, span_same, part_long))
-    ∙ (λ i. Some ((time_same i, records (body_same i)), nothing i))
+    behind_there number part (same.number ∙ it.number_is) (sum_goes_on part bytes same it.sum_is)
+    (omega (arith, span_same, part_long))
+    ∙ (λ i. Some ((same.time i, records (body_same i)), nothing i))
     ∙ ap (λ (f : Kept × List ℕ). Some (f.0, [])) it.is
 
 pub next_front : (number : ℕ) (bytes : List ℕ) (found : Kept × List ℕ) → next number bytes ≡ Some found → (wide : ℕ) →

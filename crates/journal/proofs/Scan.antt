@@ -1,19 +1,20 @@
 -- What the bytes that were read say of the file.
-use Rattle.std.proofs.Common.{◌≡◌, ◌≢◌, ℕ, ◌+◌, ◌-◌, ◌<◌, ◌≤◌, List, []}
+use Rattle.std.proofs.Common.{◌≡◌, ◌≢◌, ◌⊎◌, inl, inr, ℕ, ◌+◌, ◌-◌, ◌<◌, ◌≤◌, List, []}
 use Rattle.std.proofs.Common.{◌∷◌, ◌++◌, length, take, drop, get_or, slice_index, Option, Some, None, refl, sym, ◌∙◌}
 use Rattle.std.proofs.Common.{ap, subst, arith, append_assoc, length-append, length-drop, length-take}
 use Rattle.std.proofs.Common.{get_or-take, get_or-drop}
 use Rattle.std.proofs.lemmas.List.{drop-drop, ext_get_or, append-nil, take_all}
 use Rattle.sqlite_disk.specs.Disk.{Holds}
-use Rattle.journal.specs.Format.{Kept, sector, whole, number_of, number_in, time_in, length_in, span, records}
-use Rattle.journal.specs.Format.{next, staged, batches, stored, Lie}
-use Rattle.journal.specs.Reads.{EndsAt, headed, FindsBatch, FindsSize, FindsStaged}
+use Rattle.journal.specs.Format.{Kept, sector, whole, number_of, number_in, time_in, length_in, sum_in, sum_here, span}
+use Rattle.journal.specs.Format.{records, next, staged, batches, stored, Lie}
+use Rattle.journal.specs.Reads.{EndsAt, IsHead, IsNoHead, headed, FindsBatch, FindsSize, FindsStaged}
 use Rattle.journal.specs.declared.head.Head.{Head}
 use Rattle.std.proofs.Math.Seq.{take-add}
 use Rattle.journal.specs.Machine.{Runs, RunsRecords}
 use Rattle.journal.proofs.Reading.{first_found, first_short}
-use Rattle.journal.proofs.Places.{take_within}
-use Rattle.journal.proofs.Listing.{span_some, behind_there, behind_other, behind_short, next_open, next_shut}
+use Rattle.journal.proofs.Places.{take_within, held}
+use Rattle.journal.proofs.Listing.{SameHead, same_head, sum_goes_on}
+use Rattle.journal.proofs.Listing.{span_some, behind_there, behind_other, behind_changed, behind_short, next_open, next_shut}
 use Rattle.journal.proofs.Listing.{next_none, next_short, batches_some, batches_none, lie_more, next_front}
 
 -- a part of the bytes that stand in a file
@@ -84,55 +85,55 @@ module _ (file : List ℕ) (at number : ℕ) where
   none_shut gate holds some shut = next_shut number (drop at file)
       (λ is. shut (sym (byte_is gate holds some) ∙ sym gate_is ∙ is))
 
-  module _ (head : List ℕ) (holds : Holds file (at + sector) head) (long : length head ≡ 24) where
-    number_here : number_in (drop sector (drop at file)) ≡ number_of (take 8 head)
-    number_here =
-        let here : at + sector + 0 ≡ at + sector = omega arith in
-        ap (λ (l : List ℕ). number_of (take 8 l)) (behind_gate ∙ ap (λ (n : ℕ). drop n file) (sym here)) ∙ ap
-        number_of (part_held file (at + sector) head 0 8 holds (omega arith))
+  pub none_number : (bytes : List ℕ) → Holds file (at + sector) bytes → length bytes ≡ 8 → number_of bytes ≢ number
+      → staged number (drop at file) ≡ None
+  none_number bytes holds eight other =
+      let there = ap (λ (l : List ℕ). number_of (take 8 l)) behind_gate
+      ∙ ap (λ (n : ℕ). number_of (take n (drop (at + sector) file))) (sym eight)
+      ∙ ap number_of (held file (at + sector) bytes holds) in
+      behind_other number (drop sector (drop at file)) (λ is. other (sym there ∙ is))
 
-    time_here : time_in (drop sector (drop at file)) ≡ number_of (take 8 (drop 8 head))
-    time_here =
-        ap (λ (l : List ℕ). number_of (take 8 (drop 8 l))) behind_gate ∙ ap (λ (l : List ℕ). number_of (take 8 l))
-        (drop-drop 8 (at + sector) file) ∙ ap number_of (part_held file (at + sector) head 8 8 holds (omega arith))
+  module _ (head : List ℕ) (holds : Holds file (at + sector) head) (long : length head ≡ 32) where
+    here : SameHead (drop sector (drop at file)) head
+    here =
+        let on : at + sector + 0 ≡ at + sector = omega arith in
+        same_head (drop sector (drop at file)) head
+        (ap (λ (l : List ℕ). take 32 l) (behind_gate ∙ ap (λ (n : ℕ). drop n file) (sym on))
+        ∙ part_held file (at + sector) head 0 32 holds (omega arith))
 
-    length_here : length_in (drop sector (drop at file)) ≡ number_of (take 8 (drop 16 head))
-    length_here =
-        ap (λ (l : List ℕ). number_of (take 8 (drop 16 l))) behind_gate ∙ ap (λ (l : List ℕ). number_of (take 8 l))
-        (drop-drop 16 (at + sector) file) ∙ ap number_of (part_held file (at + sector) head 16 8 holds (omega arith))
-
-    pub none_number : number_of (take 8 head) ≢ number → staged number (drop at file) ≡ None
-    none_number other = behind_other number (drop sector (drop at file)) (λ is. other (sym number_here ∙ is))
-
-    pub none_span : length file - at - sector < whole (24 + number_of (take 8 (drop 16 head))) → staged number
-        (drop at file) ≡ None
-    none_span past =
+    pub none_headed : IsNoHead number (length file - at - sector) head → staged number (drop at file) ≡ None
+    none_headed (inl other) =
+        behind_other number (drop sector (drop at file)) (λ is. other (sym here.number ∙ is))
+    none_headed (inr (inl changed)) =
+        behind_changed number (drop sector (drop at file)) (λ is. changed (sum_goes_on head (drop sector (drop at file))
+        (record { number = sym here.number; time = sym here.time; len = sym here.len; sum = sym here.sum; numbers = sym here.numbers }) is))
+    none_headed (inr (inr past)) =
         behind_short number (drop sector (drop at file))
         (omega (
           arith,
-          ap (λ (n : ℕ). whole (24 + n)) length_here,
+          past,
+          ap (λ (n : ℕ). whole (32 + n)) here.len,
           length-drop sector (drop at file),
-          length-drop at
-              file,
+          length-drop at file,
         ))
 
-    pub found_staged : (it : Head) → number_of (take 8 head) ≡ number → it.time ≡ number_of (take 8 (drop 8 head))
-        → it.len ≡ number_of (take 8 (drop 16 head)) → at + sector + whole (24 + it.len) ≤ length file
+    pub found_staged : (it : Head) → IsHead number head it → at + sector + whole (32 + it.len) ≤ length file
         → staged number (drop at file) ≡ Some (headed file at it)
-    found_staged it number_is time_is size_is fits =
+    found_staged it is fits =
         let place = drop sector (drop at file) in
-        let sized : length_in place ≡ it.len = length_here ∙ sym size_is in
-        let timed : time_in place ≡ it.time = time_here ∙ sym time_is in
-        let span_is : span place ≡ whole (24 + it.len) = ap (λ (n : ℕ). whole (24 + n)) sized in
+        let sized : length_in place ≡ it.len = here.len ∙ sym is.len_is in
+        let timed : time_in place ≡ it.time = here.time ∙ sym is.time_is in
+        let span_is : span place ≡ whole (32 + it.len) = ap (λ (n : ℕ). whole (32 + n)) sized in
         let inside : span place ≤ length place = omega
         (arith, span_is, length-drop sector (drop at file), length-drop at file) in
-        let body : take (length_in place) (drop 24 place) ≡ take it.len (drop (at + sector + 24) file) =
-        ap (λ (n : ℕ). take n (drop 24 place)) sized ∙ ap (λ (l : List ℕ). take it.len (drop 24 l)) behind_gate ∙ ap
-        (λ (l : List ℕ). take it.len l) (drop-drop 24 (at + sector) file) in
-        let rest : drop (span place) place ≡ drop (at + sector + whole (24 + it.len)) file =
-        ap (λ (n : ℕ). drop n place) span_is ∙ ap (λ (l : List ℕ). drop (whole (24 + it.len)) l) behind_gate ∙ drop-drop
-        (whole (24 + it.len)) (at + sector) file in
-        behind_there number place (number_here ∙ number_is) inside ∙ (λ i. Some ((timed i, records (body i)), rest i))
+        let body : take (length_in place) (drop 32 place) ≡ take it.len (drop (at + sector + 32) file) =
+        ap (λ (n : ℕ). take n (drop 32 place)) sized ∙ ap (λ (l : List ℕ). take it.len (drop 32 l)) behind_gate ∙ ap
+        (λ (l : List ℕ). take it.len l) (drop-drop 32 (at + sector) file) in
+        let rest : drop (span place) place ≡ drop (at + sector + whole (32 + it.len)) file =
+        ap (λ (n : ℕ). drop n place) span_is ∙ ap (λ (l : List ℕ). drop (whole (32 + it.len)) l) behind_gate ∙ drop-drop
+        (whole (32 + it.len)) (at + sector) file in
+        behind_there number place (here.number ∙ is.number_is) (sum_goes_on place head here is.sum_is) inside
+        ∙ (λ i. Some ((timed i, records (body i)), rest i))
 
   pub finds_open : (gate : List ℕ) → Holds file at gate → 0 < length gate → slice_index gate 0 ≡ 1
       → (found : Option Head) → FindsStaged file at number found → FindsBatch file at number found

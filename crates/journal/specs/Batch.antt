@@ -10,7 +10,7 @@ batch_records batch = records batch.bytes.items
 
 -- how many bytes of the file it takes: its own sectors, and that of the gate behind it
 abbrev pub batch_size : Batch → ℕ
-batch_size batch = whole (24 + length batch.bytes.items) + sector
+batch_size batch = whole (32 + length batch.bytes.items) + sector
 
 -- as it is kept if it is added at this time
 abbrev pub kept_at : ℕ → Batch → Kept

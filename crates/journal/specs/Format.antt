@@ -1,9 +1,10 @@
 -- What the bytes of a file stand for.
-use Rattle.std.specs.Prelude.{◌≡◌, ◌≢◌, ◌⊎◌, ℕ, zero, suc, ◌+◌, ◌*◌, ◌/◌, ◌<◌, ◌≤◌, ◌^◌, ◌==◌, nat_le, ◌&&◌}
+use Rattle.std.specs.Prelude.{◌≡◌, ◌≢◌, ◌⊎◌, ℕ, zero, suc, ◌+◌, ◌*◌, ◌/◌, ◌%◌, ◌<◌, ◌≤◌, ◌^◌, ◌==◌, nat_le, ◌&&◌}
 use Rattle.std.specs.Prelude.{if◌then◌else◌, List, [], ◌∷◌, ◌++◌, length, take, drop, slice_index, Option, Some, None}
 use Rattle.std.specs.Prelude.{Bool, true, false, ◌||◌}
 use Rattle.std.specs.List.{flat_map, All}
 use Rattle.std.specs.Int.{w64, to_be_bytes, from_be_bytes}
+use Rattle.std.specs.Hash.DefaultHasher as sip
 
 -- what a device writes at once: nothing that is written shares one with anything else
 abbrev pub sector : ℕ
@@ -60,9 +61,17 @@ records bytes = records_within (length bytes) bytes
 abbrev pub Kept : Type 0
 Kept = ℕ × List (List ℕ)
 
--- before the records of a batch: its place in the list, its time, and how many bytes its records take
+-- the checksum of a head's numbers: SipHash-1-3 with both keys 0
+unfoldable pub sum_of : List ℕ → ℕ
+sum_of numbers = sip.finish (sip.write sip.initial numbers) % 2 ^ 64
+
+abbrev pub numbers : ℕ → ℕ → ℕ → List ℕ
+numbers number time len = number_bytes number ++ (number_bytes time ++ number_bytes len)
+
+-- before the records of a batch: its place in the list, its time, how many bytes its records take, and the checksum of
+-- these, by which it is found if one of them has changed
 abbrev pub head : ℕ → ℕ → ℕ → List ℕ
-head number time len = number_bytes number ++ (number_bytes time ++ number_bytes len)
+head number time len = numbers number time len ++ number_bytes (sum_of (numbers number time len))
 
 abbrev pub number_in : List ℕ → ℕ
 number_in bytes = number_of (take 8 bytes)
@@ -73,15 +82,23 @@ time_in bytes = number_of (take 8 (drop 8 bytes))
 abbrev pub length_in : List ℕ → ℕ
 length_in bytes = number_of (take 8 (drop 16 bytes))
 
+abbrev pub sum_in : List ℕ → ℕ
+sum_in bytes = number_of (take 8 (drop 24 bytes))
+
+-- that of the numbers here
+abbrev pub sum_here : List ℕ → ℕ
+sum_here bytes = sum_of (take 24 bytes)
+
 -- how far a batch goes: its head and its records, in whole sectors
 abbrev pub span : List ℕ → ℕ
-span bytes = whole (24 + length_in bytes)
+span bytes = whole (32 + length_in bytes)
 
--- what stands behind the gate's sector: the batch with this number, and what follows it, if all of it is there
+-- what stands behind the gate's sector: the batch with this number, and what follows it, if its head is whole and all of
+-- it is there
 unfoldable pub behind : ℕ → List ℕ → Option (Kept × List ℕ)
 behind number bytes =
-    if (number_in bytes == number) && nat_le (span bytes) (length bytes) then
-    Some ((time_in bytes, records (take (length_in bytes) (drop 24 bytes))), drop (span bytes) bytes) else None
+    if (number_in bytes == number) && ((sum_in bytes == sum_here bytes) && nat_le (span bytes) (length bytes)) then
+    Some ((time_in bytes, records (take (length_in bytes) (drop 32 bytes))), drop (span bytes) bytes) else None
 
 -- the first batch, if its gate is open: the first byte of its sector is 1
 unfoldable pub next : ℕ → List ℕ → Option (Kept × List ℕ)

@@ -2,6 +2,7 @@ pub mod Format
 pub mod Batch
 pub mod Gate
 pub mod Machine
+pub mod Mending
 pub mod Errors
 pub mod Line
 pub mod Reads

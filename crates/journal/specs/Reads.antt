@@ -3,7 +3,8 @@ use Rattle.std.specs.Prelude.{◌≡◌, ◌≢◌, ◌⊎◌, ℕ, ◌+◌, ◌
 use Rattle.std.specs.Prelude.{List, [], ◌++◌, length, take, drop, slice_index, Option, Some, None, IsTrue}
 use Rattle.sqlite_disk.specs.declared.Disk.{Ghosts}
 use Rattle.sqlite_disk.specs.Disk.{Torn}
-use Rattle.journal.specs.Format.{Kept, number_of, records, first, next, staged, stored, whole, Lie, sector}
+use Rattle.journal.specs.Format.{Kept, number_of, number_in, time_in, length_in, sum_in, sum_here, span}
+use Rattle.journal.specs.Format.{records, first, next, staged, stored, whole, Lie, sector}
 use Rattle.journal.specs.Machine.{RunsRecords}
 use Rattle.journal.specs.declared.head.Head.{Head}
 
@@ -43,10 +44,22 @@ RunsTo steps time old file at next new =
     (done : List (List ℕ)) × RunsRecords steps time old done new
     × (records (drop at file) ≡ done ++ records (drop next file))
 
+-- these bytes are this head, of the batch with this number
+pub record IsHead (number : ℕ) (bytes : List ℕ) (head : Head) : Type 0 where
+  pub number_is : number_in bytes ≡ number
+  pub sum_is : sum_in bytes ≡ sum_here bytes
+  pub time_is : head.time ≡ time_in bytes
+  pub len_is : head.len ≡ length_in bytes
+
+-- they are no head of that batch, by its number, by its sum, or since there is no room for the batch
+abbrev pub IsNoHead : ℕ → ℕ → List ℕ → Type 0
+IsNoHead number room bytes =
+    (number_in bytes ≢ number) ⊎ ((sum_in bytes ≢ sum_here bytes) ⊎ (room < span bytes))
+
 -- the batch of this head, and what follows it
 abbrev pub headed : List ℕ → ℕ → Head → Kept × List ℕ
 headed file at head =
-    ((head.time, records (take head.len (drop (at + sector + 24) file))), drop (at + sector + whole (24 + head.len)) file)
+    ((head.time, records (take head.len (drop (at + sector + 32) file))), drop (at + sector + whole (32 + head.len)) file)
 
 -- a read of the next head: its batch stands here, or none does
 abbrev pub FindsBatch : List ℕ → ℕ → ℕ → Option Head → Type 0

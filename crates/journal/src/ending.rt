@@ -9,7 +9,7 @@ ghost use Rattle.journal.specs.Ending.{EndsAs, IsLater, HasLater, HasNoLater};
 
 use crate::Error;
 use crate::gate::{LEFT_OPEN, OPEN, SHUT_GATE};
-use crate::head::{HEAD_LEN, number_in};
+use crate::head::number_in;
 use crate::line::is_same;
 use crate::replay::{read, read_head};
 use crate::sectors::SECTOR;
@@ -57,9 +57,9 @@ fn is_later<D: Disk>(
     if gate[0] != OPEN {
         return Ok(false);
     }
-    let mut head = [0; HEAD_LEN];
-    read(disk, len, at + SECTOR, &mut head)?;
-    let number = number_in(&head[..8]) as usize;
+    let mut bytes = [0; 8];
+    read(disk, len, at + SECTOR, &mut bytes)?;
+    let number = number_in(&bytes) as usize;
     if number <= count || number > most {
         return Ok(false);
     }

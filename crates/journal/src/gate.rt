@@ -2,18 +2,17 @@
 ghost use Rattle.std.specs.Prelude.{◌≡◌, ◌+◌, ◌%◌, ◌<◌, ◌≤◌, ◌^◌};
 ghost use Rattle.std.specs.Prelude.{ℕ, List, length, slice_index, IfOk, OnOk, IsTrue};
 ghost use Rattle.sqlite_disk.specs.Disk.{Torn, Follows, Only, CountsFault};
-ghost use Rattle.journal.specs.Format.{Kept, Rests, records, whole, sector};
+ghost use Rattle.journal.specs.Format.{Kept, Rests, records, whole, sector, head};
 ghost use Rattle.journal.specs.Gate.{IsStaged};
+ghost use Rattle.journal.specs.Mending.{copy_at, head_at};
 
 use crate::head::{HEAD_LEN, head_of};
-use crate::sectors::{SECTOR, whole, write_batch, write_sectors};
+use crate::sectors::{SECTOR, sector_of, whole, write_batch, write_sectors};
 use sqlite_disk::Disk;
 use std::io;
 
 /// A gate is open if its sector begins with this byte.
 pub const OPEN: u8 = 1;
-
-static OPEN_GATE: [u8; SECTOR] = [OPEN; SECTOR];
 
 /// A gate that stood open without its batch begins with this byte once it is shut. It is shut as any other, and goes on
 /// to tell of the batches that are lost.
@@ -70,10 +69,11 @@ pub fn stage<D: Disk>(
 ) -> io::Result<()>
     requires usable { IsTrue (D.Disk.is_usable disk.old) }
     requires begins { gate % 4096 ≡ 0 }
-    requires fits { gate + sector + whole (24 + length bytes.now) + sector < 2 ^ 63 }
-    ensures staged { OnOk result (IsStaged gate (gate + sector + whole (24 + length bytes.now))
+    requires fits { gate + sector + whole (32 + length bytes.now) + sector < 2 ^ 63 }
+    ensures staged { OnOk result (IsStaged gate (gate + sector + whole (32 + length bytes.now))
         number
         (time, records bytes.now) (D.Disk.seen disk.new)) }
+    ensures headed { OnOk result (head_at (D.Disk.seen disk.new) gate ≡ head number time (length bytes.now)) }
     ensures synced { OnOk result (Only (D.Disk.seen disk.new) (D.Disk.may_leave disk.new)) }
     ensures usable { OnOk result (IsTrue (D.Disk.is_usable disk.new)) }
     ensures clean { IsTrue (D.Disk.is_clean disk.new) → IsTrue (D.Disk.is_clean disk.old) }
@@ -86,7 +86,7 @@ pub fn stage<D: Disk>(
 
     // It stays within its own sectors.
     ensures within { length (D.Disk.seen disk.old) ≤ length (D.Disk.seen disk.new)
-        × (gate + sector + whole (24 + length bytes.now) + sector ≤ length (D.Disk.seen disk.old)
+        × (gate + sector + whole (32 + length bytes.now) + sector ≤ length (D.Disk.seen disk.old)
         → length (D.Disk.seen disk.new) ≡ length (D.Disk.seen disk.old)) }
 {
     let at = gate + SECTOR;
@@ -95,11 +95,13 @@ pub fn stage<D: Disk>(
     disk.sync()
 }
 
-/// Opens a gate, and syncs.
-pub fn open_gate<D: Disk>(disk: &mut D, gate: usize) -> io::Result<()>
+/// Opens a gate, and syncs. Behind its first byte it has a copy of the head of its batch, by which that is found again if
+/// it is damaged.
+pub fn open_gate<D: Disk>(disk: &mut D, gate: usize, head: &[u8; HEAD_LEN]) -> io::Result<()>
     requires usable { IsTrue (D.Disk.is_usable disk.old) }
     requires begins { gate % 4096 ≡ 0 }
     ensures open { OnOk result (slice_index (D.Disk.seen disk.new) gate ≡ 1) }
+    ensures copied { OnOk result (copy_at (D.Disk.seen disk.new) gate ≡ head.now) }
     ensures others { Torn gate sector (D.Disk.seen disk.old) (D.Disk.seen disk.new) }
     ensures synced { OnOk result (Only (D.Disk.seen disk.new) (D.Disk.may_leave disk.new)) }
     ensures usable { OnOk result (IsTrue (D.Disk.is_usable disk.new)) }
@@ -108,7 +110,7 @@ pub fn open_gate<D: Disk>(disk: &mut D, gate: usize) -> io::Result<()>
     ensures crash { Follows (Torn gate sector) (D.Disk.may_leave disk.old)
         (D.Disk.may_leave disk.new) }
 {
-    write_sectors(disk, gate, &OPEN_GATE)?;
+    write_sectors(disk, gate, &sector_of(&[OPEN], head))?;
     disk.sync()
 }
 

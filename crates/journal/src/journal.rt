@@ -12,9 +12,10 @@ ghost use Rattle.journal.specs.Reads.{Refuses};
 
 use crate::ending::see_end;
 use crate::gate::{blank, open_gate, stage};
-use crate::head::HEAD_LEN;
+use crate::head::{HEAD_LEN, head_of};
 use crate::looking::look;
 use crate::machine::Passing;
+use crate::mending::mend;
 use crate::recovery::{MAX_LEN, measure, prepare};
 use crate::sectors::{SECTOR, whole};
 use crate::{Batch, Ending, Error, Line, Looked, Machine};
@@ -51,8 +52,8 @@ pub struct Journal<D: Disk> {
 /// Where the gate behind a batch of so many bytes stands, if it still ends before 2^63.
 fn next_gate(gate: usize, len: usize) -> Option<usize>
     requires { gate + sector < 2 ^ 63 }
-    ensures { MatchOption result (2 ^ 63 ≤ gate + sector + whole (24 + len) + sector)
-        (λ next. (next ≡ gate + sector + whole (24 + len)) × (next + sector < 2 ^ 63)) }
+    ensures { MatchOption result (2 ^ 63 ≤ gate + sector + whole (32 + len) + sector)
+        (λ next. (next ≡ gate + sector + whole (32 + len)) × (next + sector < 2 ^ 63)) }
 {
     if len >= MAX_LEN - 2 * SECTOR {
         return None;
@@ -65,6 +66,7 @@ fn next_gate(gate: usize, len: usize) -> Option<usize>
 }
 
 impl<D: Disk> Journal<D> {
+    ghost use Rattle.journal.specs.Mending.{copy_at, head_at};
     ghost use Rattle.journal.specs.Journal.{disk_of, line_of, is_open, end_of, count_of, kept, room_of};
     ghost use Rattle.journal.specs.Batch.{batch_records, batch_size};
     ghost use Rattle.journal.specs.Line.{BeginsWith};
@@ -269,6 +271,12 @@ impl<D: Disk> Journal<D> {
             → kept self.new ≡ kept self.old ++ (time, batch_records batch.now) ∷ []) }
         ensures open { OnOk result (IsTrue (is_open self.new)) }
         ensures line { line_of self.new ≡ line_of self.old }
+
+        // Its gate has a copy of its head, by which it comes back if one of the two is damaged.
+        ensures copied { OnOk result (IsTrue (D.Disk.is_clean (disk_of self.new))
+            → copy_at (D.Disk.seen (disk_of self.new)) (end_of self.old)
+            ≡ head_at (D.Disk.seen (disk_of self.new)) (end_of self.old)) }
+
         ensures durable { OnOk result (IsTrue (D.Disk.is_clean (disk_of self.new)) → (c : List ℕ)
             → D.Disk.may_leave (disk_of self.new) c → stored c ≡ kept self.old
             ++ (time, batch_records batch.now) ∷ []) }
@@ -318,7 +326,8 @@ impl<D: Disk> Journal<D> {
             self.is_open = self.disk.may_be_used();
             return Err(Error::Disk(error));
         }
-        if let Err(error) = open_gate(&mut self.disk, self.end) {
+        let head = head_of(self.count, time, bytes.len());
+        if let Err(error) = open_gate(&mut self.disk, self.end, &head) {
             return Err(Error::Disk(error));
         }
         self.end = next;
@@ -331,7 +340,10 @@ impl<D: Disk> Journal<D> {
 
 impl<D: Disk> Journal<D> {
     ghost use Rattle.journal.specs.Ending.{EndsAs};
+    ghost use Rattle.journal.specs.Format.{Kept};
     ghost use Rattle.journal.specs.Line.{BeginsWith};
+    ghost use Rattle.journal.specs.Mending.{IsMended, CannotMend};
+    ghost use Rattle.std.specs.Prelude.{true};
     ghost use Rattle.journal.specs.Reads.{OnlyReads, EndsAt};
     ghost use Rattle.journal.specs.Journal.{disk_of, line_of, is_open, end_of, count_of, room_of, kept};
 
@@ -369,6 +381,45 @@ impl<D: Disk> Journal<D> {
         }
         let ending = see_end(&mut self.disk, len, self.end, self.count)?;
         Ok(ending)
+    }
+
+    /// Brings back the batch at whose gate the file ends, by the copy of its head that a gate has once it was opened. If
+    /// the gate is shut and has a copy of the head behind it, it is opened. If it is open, and its batch isn't there, the
+    /// head is written of which it has a copy, if that has the batch's number and the file has room for it. It is to be
+    /// called again until there is no such batch: what the file stands for goes on to the next damage.
+    ///
+    /// A gate's sector has nothing of what a record has, and one that was never opened has no copy. So a crash leaves no
+    /// such end, but that of a gate that was being opened: its batch is on the disk, and comes back whole.
+    ///
+    /// `true` says that there was one, and that the repair is on the disk; `false`, that nothing was written. The journal
+    /// isn't open then: `recover` opens it. An error is one of `recover`.
+    pub fn mend(&mut self, alloc: Global) -> Result<bool, Error>
+        ensures mended { IfOk result (λ is. is ≡ true → IsTrue (D.Disk.is_clean (disk_of self.new))
+            → IsMended (D.Disk.seen (disk_of self.old)) (D.Disk.seen (disk_of self.new))) }
+        ensures left { IfOk result (λ is. is ≡ false → (D.Disk.seen (disk_of self.new)
+            ≡ D.Disk.seen (disk_of self.old))
+            × (IsTrue (D.Disk.is_clean (disk_of self.new))
+            → CannotMend (D.Disk.seen (disk_of self.old)))) }
+        ensures closed { is_open self.new ≡ false }
+        ensures line { line_of self.new ≡ line_of self.old }
+        ensures clean { IsTrue (D.Disk.is_clean (disk_of self.new))
+            → IsTrue (D.Disk.is_clean (disk_of self.old)) }
+        // Each crash leaves what it left before, with what is behind it or without.
+        ensures any_crash { IsTrue (D.Disk.is_clean (disk_of self.new))
+            → (c : List ℕ) → D.Disk.may_leave (disk_of self.new) c
+            → (d : List ℕ) × D.Disk.may_leave (disk_of self.old) d
+            × (more : List Kept) × (stored c ≡ stored d ++ more) }
+        ensures front { ((d : List ℕ) → D.Disk.may_leave (disk_of self.old) d
+            → BeginsWith (line_of self.old) d)
+            → IsTrue (D.Disk.is_clean (disk_of self.new))
+            → (c : List ℕ) → D.Disk.may_leave (disk_of self.new) c
+            → BeginsWith (line_of self.old) c }
+    {
+        self.is_open = false;
+        if !self.disk.may_be_used() {
+            return Err(Error::Closed);
+        }
+        mend(&mut self.disk, &self.line, alloc)
     }
 
     /// Opens a journal whose end is `Broken`, as `recover` does, but runs nothing; adds a batch without records, with the

@@ -17,7 +17,7 @@ use sqlite_disk::Disk;
 /// "journal\n", as a number.
 const NAME: usize = 0x6a6f_7572_6e61_6c0a;
 
-const VERSION: u64 = 1;
+const VERSION: u64 = 2;
 
 /// What a file begins with: the name and the version of its format, and the parameters of the one who began it.
 #[derive(Drop)]
@@ -29,11 +29,11 @@ impl Line {
     ghost use Rattle.journal.specs.Line.{line_text, line_bytes};
 
     /// The line of these parameters, which are the caller's and mean nothing here. `None` says that they have more
-    /// than 4,072 bytes.
+    /// than 4,064 bytes.
     pub fn new(parameters: &[u8]) -> Option<Line>
         ensures text { IfSome result (λ line.
-            take (24 + length parameters.now) (line_bytes line) ≡ line_text parameters.now) }
-        ensures none { IsNone result ↔ (4072 < length parameters.now) }
+            take (32 + length parameters.now) (line_bytes line) ≡ line_text parameters.now) }
+        ensures none { IsNone result ↔ (4064 < length parameters.now) }
     {
         if parameters.len() > SECTOR - HEAD_LEN {
             return None;

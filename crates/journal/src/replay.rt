@@ -9,7 +9,7 @@ ghost use Rattle.journal.specs.Errors.{OnlyDisk, OnlyReplay, Never};
 ghost use Rattle.journal.specs.Reads.{OnlyReads, Finds, FindsSize, IsFirst, RunsPast, RunsTo, FindsBatch, FindsStaged, EndsAt};
 
 use crate::gate::OPEN;
-use crate::head::{HEAD_LEN, Head, number_in};
+use crate::head::{HEAD_LEN, Head, head_in, number_in};
 use crate::sectors::{SECTOR, whole};
 use crate::{Error, Machine};
 use sqlite_disk::Disk;
@@ -234,7 +234,7 @@ fn run_records<D: Disk, M: Machine>(
 
 /// Reads the head of the batch with this number behind the gate at `at`, if all of the batch is there. It doesn't ask
 /// whether the gate is open.
-fn read_staged<D: Disk>(
+pub fn read_staged<D: Disk>(
     disk: &mut D,
     len: usize,
     at: usize,
@@ -247,8 +247,8 @@ fn read_staged<D: Disk>(
     ensures found { IfOk result (λ head. IsTrue (D.Disk.is_clean disk.new)
         → FindsStaged (D.Disk.seen disk.old) at number head) }
     ensures within { IfOk result (λ head. IfSome head
-        (λ h. at + sector + whole (24 + h.len) ≤ len)) }
-    ensures records { IfOk result (λ head. IfSome head (λ h. at + sector + 24 + h.len ≤ len)) }
+        (λ h. at + sector + whole (32 + h.len) ≤ len)) }
+    ensures records { IfOk result (λ head. IfSome head (λ h. at + sector + 32 + h.len ≤ len)) }
     ensures cause { IfErr result (OnlyDisk
         (MoreFaults (D.Disk.faults disk.old) (D.Disk.faults disk.new))) }
     ensures reads { OnlyReads D.Disk disk.old disk.new }
@@ -256,22 +256,9 @@ fn read_staged<D: Disk>(
     if len - at < SECTOR + SECTOR {
         return Ok(None);
     }
-    let mut head = [0; HEAD_LEN];
-    read(disk, len, at + SECTOR, &mut head)?;
-    let number_there = number_in(&head[..8]);
-    if number_there != number as u64 {
-        return Ok(None);
-    }
-    let size = number_in(&head[16..]) as usize;
-    let room = len - at - SECTOR;
-    if size > room {
-        return Ok(None);
-    }
-    if whole(HEAD_LEN + size) > room {
-        return Ok(None);
-    }
-    let time = number_in(&head[8..16]);
-    Ok(Some(Head { time, len: size }))
+    let mut bytes = [0; HEAD_LEN];
+    read(disk, len, at + SECTOR, &mut bytes)?;
+    Ok(head_in(&bytes, number, len - at - SECTOR))
 }
 
 /// Reads the head of the batch with this number, if its gate stands open at `at` and all of it is there.
@@ -288,8 +275,8 @@ pub fn read_head<D: Disk>(
     ensures found { IfOk result (λ head. IsTrue (D.Disk.is_clean disk.new)
         → FindsBatch (D.Disk.seen disk.old) at number head) }
     ensures within { IfOk result (λ head. IfSome head
-        (λ h. at + sector + whole (24 + h.len) ≤ len)) }
-    ensures records { IfOk result (λ head. IfSome head (λ h. at + sector + 24 + h.len ≤ len)) }
+        (λ h. at + sector + whole (32 + h.len) ≤ len)) }
+    ensures records { IfOk result (λ head. IfSome head (λ h. at + sector + 32 + h.len ≤ len)) }
     ensures cause { IfErr result (OnlyDisk
         (MoreFaults (D.Disk.faults disk.old) (D.Disk.faults disk.new))) }
     ensures reads { OnlyReads D.Disk disk.old disk.new }

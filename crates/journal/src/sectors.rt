@@ -4,6 +4,7 @@ ghost use Rattle.std.specs.Prelude.{◌++◌, ℕ, List, length, take, OnOk, IsT
 ghost use Rattle.sqlite_disk.specs.Disk.{Holds, Torn, Follows, CountsFault};
 ghost use Rattle.journal.specs.Format.{whole};
 
+use crate::head::HEAD_LEN;
 use sqlite_disk::Disk;
 use std::io;
 
@@ -94,19 +95,19 @@ fn write_padded<D: Disk>(disk: &mut D, at: usize, bytes: &[u8]) -> io::Result<()
 pub fn write_batch<D: Disk>(
     disk: &mut D,
     at: usize,
-    head: &[u8; 24],
+    head: &[u8; HEAD_LEN],
     bytes: &[u8],
 ) -> io::Result<()>
     requires usable { IsTrue (D.Disk.is_usable disk.old) }
     requires begins { at % 4096 ≡ 0 }
-    requires fits { at + whole (24 + length bytes.now) < 2 ^ 64 }
+    requires fits { at + whole (32 + length bytes.now) < 2 ^ 64 }
     ensures written { OnOk result (Holds (D.Disk.seen disk.new) at (head.now ++ bytes.now)) }
     ensures usable { IsTrue (D.Disk.is_usable disk.new) }
     ensures clean { IsTrue (D.Disk.is_clean disk.new) → IsTrue (D.Disk.is_clean disk.old) }
     ensures faults { CountsFault result (D.Disk.faults disk.old) (D.Disk.faults disk.new) }
-    ensures others { Torn at (whole (24 + length bytes.now)) (D.Disk.seen disk.old)
+    ensures others { Torn at (whole (32 + length bytes.now)) (D.Disk.seen disk.old)
         (D.Disk.seen disk.new) }
-    ensures crash { Follows (Torn at (whole (24 + length bytes.now))) (D.Disk.may_leave disk.old)
+    ensures crash { Follows (Torn at (whole (32 + length bytes.now))) (D.Disk.may_leave disk.old)
         (D.Disk.may_leave disk.new) }
 {
     let (front, rest) = bytes.split_at(bytes.len().min(SECTOR - head.len()));

@@ -3,6 +3,7 @@ use crate::text::{START, Text, empty_text, file_of, line};
 use journal::{Batch, Ending, Error, Journal, Looked};
 use sqlite_disk::Memory;
 use std::alloc::Global;
+use std::hash::{DefaultHasher, Hasher};
 use std::test::Fail;
 
 const SECTOR: usize = 4096;
@@ -11,6 +12,9 @@ const SECTOR: usize = 4096;
 const GATES: [usize; 5] = [4096, 12_288, 20_480, 28_672, 36_864];
 
 const END: usize = 45_056;
+
+/// How many bytes stand before the records of a batch. Its gate has a copy of them behind its first byte.
+const HEAD_LEN: usize = 32;
 
 /// Two records, of which none is like a part of another.
 fn batch_of(alloc: Global, number: u8) -> Result<Batch, Error> {
@@ -70,17 +74,18 @@ fn recovered(alloc: Global, bytes: &[u8]) -> Result<(Ending, Ending, usize), Err
     Ok((looked.ending, ending, journal.count()))
 }
 
+/// The places of the bytes that stand before the records of the batch behind this gate, and mean something.
+fn places_before(gate: usize) -> impl Iterator<Item = usize> {
+    let head = gate.saturating_add(SECTOR);
+    (gate..gate.saturating_add(1 + HEAD_LEN)).chain(head..head.saturating_add(HEAD_LEN))
+}
+
 #[test]
 fn a_bit_between_records_hides_none(rt: HostRuntime) -> Result<(), Fail> {
     let alloc = rt.alloc();
     let mut bytes = bytes_of(alloc).unwrap_or(Vec::new(alloc));
     for gate in GATES {
-        for place in 0..25 {
-            let at = if place == 24 {
-                gate
-            } else {
-                gate.saturating_add(SECTOR).saturating_add(place)
-            };
+        for at in places_before(gate) {
             for mask in [1u8, 2, 4, 8, 16, 32, 64, 128] {
                 let was = bytes.get(at).copied().unwrap_or(0);
                 if let Some(there) = bytes.get_mut(at) {
@@ -165,5 +170,203 @@ fn a_broken_file_goes_on_with_a_mark(rt: HostRuntime) -> Result<(), Fail> {
     assert!(rt; looked.has_mark && looked.ending == Ending::Sound && !looked.is_sure());
     let seen = [(0, 100, 160), (0, 101, 161), (1, 100, 162), (1, 101, 163)];
     assert!(rt; text.seen.as_slice() == seen.as_slice());
+    Ok(())
+}
+
+/// How many records are read of a file once what a damaged sector hides is brought back, if it is sure to have all then.
+fn mended(alloc: Global, bytes: &[u8]) -> Result<usize, Error> {
+    let mut journal = Journal::new(file_of(alloc, bytes)?, line()?);
+    for _ in 0..GATES.len() {
+        if !journal.mend(alloc)? {
+            break;
+        }
+    }
+    let mut text = empty_text(alloc);
+    let looked = journal.look(alloc, &mut text)?;
+    let written = text.seen.iter().filter(|record| is_written(record)).count();
+    Ok(if looked.is_sure() { written } else { 0 })
+}
+
+/// Whether a damaged sector of a file is mended.
+fn is_mended(alloc: Global, bytes: &[u8]) -> Result<bool, Error> {
+    let is_mended = Journal::new(file_of(alloc, bytes)?, line()?).mend(alloc)?;
+    Ok(is_mended)
+}
+
+/// A sector of a file is written over with these bytes of it, each changed by a mask.
+fn spoil(bytes: &mut Vec<u8>, at: usize, from: usize, mask: u8) {
+    for place in 0..SECTOR {
+        let byte = bytes.get(from.saturating_add(place)).copied().unwrap_or(0);
+        if let Some(there) = bytes.get_mut(at.saturating_add(place)) {
+            *there = byte ^ mask;
+        }
+    }
+}
+
+#[test]
+fn what_has_lost_more_than_a_number_stays_lost(rt: HostRuntime) -> Result<(), Fail> {
+    let alloc = rt.alloc();
+    for (gate, other) in GATES.iter().zip(GATES.iter().skip(1)) {
+        let head = other.saturating_add(SECTOR);
+        // its bytes turned round, those of the batch before, zeros, and those of a record
+        for (from, mask) in [
+            (head, 255),
+            (gate.saturating_add(SECTOR), 0),
+            (*gate, 0),
+            (usize::MAX, 160),
+        ] {
+            let mut bytes = bytes_of(alloc).unwrap_or(Vec::new(alloc));
+            spoil(&mut bytes, head, from, mask);
+            assert!(rt;
+                !is_mended(alloc, &bytes).unwrap_or(true),
+                "the sector at {head}, by what is at {from}, bits {mask}"
+            );
+            assert!(rt;
+                mended(alloc, &bytes).unwrap_or(99) == 0,
+                "the sector at {head}, by what is at {from}, bits {mask}"
+            );
+        }
+    }
+    Ok(())
+}
+
+/// Whether each record comes back of a file of which these bytes are changed.
+fn comes_back(alloc: Global, bytes: &mut [u8], places: &[usize], mask: u8) -> bool {
+    flip(bytes, places, mask);
+    let all = mended(alloc, bytes).unwrap_or(99) == 10;
+    flip(bytes, places, mask);
+    all
+}
+
+fn flip(bytes: &mut [u8], places: &[usize], mask: u8) {
+    for place in places {
+        if let Some(there) = bytes.get_mut(*place) {
+            *there ^= mask;
+        }
+    }
+}
+
+#[test]
+fn what_a_damaged_sector_hides_comes_back(rt: HostRuntime) -> Result<(), Fail> {
+    let alloc = rt.alloc();
+    let mut bytes = bytes_of(alloc).unwrap_or(Vec::new(alloc));
+    for gate in GATES {
+        for at in places_before(gate) {
+            for mask in [1u8, 2, 4, 8, 16, 32, 64, 128] {
+                assert!(rt;
+                    comes_back(alloc, &mut bytes, &[at], mask),
+                    "byte {at}, bits {mask}"
+                );
+            }
+        }
+    }
+    // a sector of each of two batches: one is brought back after the other
+    for (gate, next) in GATES.iter().zip(GATES.iter().skip(1)) {
+        let (head, other) = (gate.saturating_add(SECTOR), next.saturating_add(SECTOR));
+        for two in [[*gate, *next], [*gate, other], [head, *next], [head, other]] {
+            assert!(rt;
+                comes_back(alloc, &mut bytes, &two, 128),
+                "two sectors from {gate} on"
+            );
+        }
+    }
+    Ok(())
+}
+
+/// A record whose bytes look like open gates and batches behind them, at each sector from the next one on.
+fn imitation(alloc: Global) -> Result<Vec<u8>, Error> {
+    let mut record = Vec::new(alloc);
+    // before it stand the head of the batch and the length of the record
+    let mut done = record.resize(SECTOR - HEAD_LEN - 8, 7).is_ok();
+    let mut head = [0; HEAD_LEN];
+    head[23] = 16;
+    for number in 6..9u8 {
+        head[7] = number;
+        let mut hasher = DefaultHasher::new();
+        hasher.write(head.get(..24).unwrap_or(&[]));
+        if let Some(sum) = head.get_mut(24..) {
+            sum.copy_from_slice(&hasher.finish().to_be_bytes());
+        }
+        let from = record.len();
+        done &= record.extend_from_slice(&[1]).is_ok() && record.extend_from_slice(&head).is_ok();
+        done &= record.resize(from.saturating_add(SECTOR), 0).is_ok();
+        done &= record.extend_from_slice(&head).is_ok();
+        done &= record.extend_from_slice(&[0, 0, 0, 0, 0, 0, 0, 8]).is_ok();
+        done &= record.resize(from.saturating_add(2 * SECTOR), 66).is_ok();
+    }
+    if done {
+        Ok(record)
+    } else {
+        Err(Error::NoMemory)
+    }
+}
+
+/// How a file is seen of five batches and a sixth one of such a record, whose gate was never opened, behind a mending; how
+/// many records it has; and whether something was mended.
+fn cut_imitation(alloc: Global) -> Result<(Looked, usize, bool), Error> {
+    let mut journal = Journal::new(file_of(alloc, &bytes_of(alloc)?)?, line()?);
+    journal.recover(alloc, &mut empty_text(alloc))?;
+    let mut batch = Batch::new(alloc);
+    if batch.add(&imitation(alloc)?).is_err() {
+        return Err(Error::NoMemory);
+    }
+    journal.append(&batch, START)?;
+    let mut bytes = Vec::new(alloc);
+    if bytes
+        .extend_from_slice(journal.into_disk().bytes())
+        .is_err()
+    {
+        return Err(Error::NoMemory);
+    }
+    for byte in bytes.iter_mut().skip(END).take(SECTOR) {
+        *byte = 0;
+    }
+    let mut journal = Journal::new(file_of(alloc, &bytes)?, line()?);
+    let is_mended = journal.mend(alloc)?;
+    let mut text = empty_text(alloc);
+    let looked = journal.look(alloc, &mut text)?;
+    Ok((looked, text.seen.len(), is_mended))
+}
+
+#[test]
+fn what_looks_like_batches_within_a_record_is_none(rt: HostRuntime) -> Result<(), Fail> {
+    let Ok((looked, seen, is_mended)) = cut_imitation(rt.alloc()) else {
+        assert!(rt; false, "it is looked at");
+        return Ok(());
+    };
+    // it is taken for batches that are lost, and not for any that were added
+    assert!(rt; looked.ending == Ending::Broken && seen == 10 && !is_mended);
+    Ok(())
+}
+
+#[test]
+fn what_no_gate_tells_of_stays_shut(rt: HostRuntime) -> Result<(), Fail> {
+    let alloc = rt.alloc();
+    let mut bytes = bytes_of(alloc).unwrap_or(Vec::new(alloc));
+    // a batch that was written and never counted
+    for byte in bytes.iter_mut().skip(GATES[4]).take(SECTOR) {
+        *byte = 0;
+    }
+    assert!(rt;
+        mended(alloc, &bytes).unwrap_or(99) == 8,
+        "its gate stays shut"
+    );
+    // neither the gate nor the head of one
+    flip(&mut bytes, &[GATES[1], GATES[1].saturating_add(SECTOR)], 4);
+    assert!(rt;
+        mended(alloc, &bytes).unwrap_or(99) == 0,
+        "two sectors are damaged"
+    );
+    // zeros are no head
+    for gate in GATES {
+        let mut bytes = bytes_of(alloc).unwrap_or(Vec::new(alloc));
+        for byte in bytes.iter_mut().skip(gate).take(2 * SECTOR) {
+            *byte = 0;
+        }
+        assert!(rt;
+            !is_mended(alloc, &bytes).unwrap_or(true),
+            "zeros from {gate} on"
+        );
+    }
     Ok(())
 }

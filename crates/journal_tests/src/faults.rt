@@ -37,7 +37,7 @@ fn changed(alloc: Global, at: usize, byte: u8) -> Result<Memory, Error> {
 #[test]
 fn another_version_is_refused_by_name(rt: HostRuntime) -> Result<(), Fail> {
     let alloc = rt.alloc();
-    let opened = match changed(alloc, 15, 2) {
+    let opened = match changed(alloc, 15, 9) {
         Ok(disk) => match line() {
             Ok(line) => Journal::new(disk, line).recover(alloc, &mut empty_text(alloc)),
             Err(error) => Err(error),

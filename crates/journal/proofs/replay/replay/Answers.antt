@@ -17,7 +17,7 @@ loop-bytes-preserved g c =
     let two = c.run_records.ensures.reads in
     let head = c.in-Some.head in
     let at = c.loop-bytes.at in
-    let w = is_whole (24 + head.len) in
+    let w = is_whole (32 + head.len) in
     record {
       begins = omega (arith, so_far.begins);
       even = omega (arith, so_far.even, w.even, c.whole.ensures);
@@ -35,9 +35,9 @@ loop-bytes-preserved g c =
           let mid_clean = two.clean clean in
           let before = so_far.ran (one.clean mid_clean) in
           let found = c.in_ok-head.ensures.found mid_clean in
-          let on : at + sector + whole (24 + head.len) ≡ at + (4096 + c.whole.result) = omega (arith, c.whole.ensures)
+          let on : at + sector + whole (32 + head.len) ≡ at + (4096 + c.whole.result) = omega (arith, c.whole.ensures)
           in
-          let records_here = records (take head.len (drop (at + sector + 24) file)) in
+          let records_here = records (take head.len (drop (at + sector + 32) file)) in
           let here : next c.loop-bytes.count (drop at file) ≡ Some
           ((head.time, records_here), drop (at + (4096 + c.whole.result)) file) =
           subst (λ n. next c.loop-bytes.count (drop at file) ≡ Some ((head.time, records_here), drop n file)) on
@@ -49,22 +49,22 @@ loop-bytes-preserved g c =
           subst (λ n. next n (drop at file) ≡ Some
           ((head.time, records_here), drop (at + (4096 + c.whole.result)) file)) before.2 here in
           let seen_is : g.D.Disk.seen c.read_head.new.disk ≡ file = one.seen ∙ so_far.reads.seen in
-          let same_records : records (drop (at + 4096 + 24)
-          (take (at + 4096 + 24 + head.len) (g.D.Disk.seen c.read_head.new.disk))) ≡ records_here =
-          ap (λ f. records (drop (at + 4096 + 24) (take (at + 4096 + 24 + head.len) f))) seen_is ∙ ap records
-          (drop-take (at + 4096 + 24) head.len file) in
+          let same_records : records (drop (at + 4096 + 32)
+          (take (at + 4096 + 32 + head.len) (g.D.Disk.seen c.read_head.new.disk))) ≡ records_here =
+          ap (λ f. records (drop (at + 4096 + 32) (take (at + 4096 + 32 + head.len) f))) seen_is ∙ ap records
+          (drop-take (at + 4096 + 32) head.len file) in
           let ran : RunsRecords g.M.Machine.steps head.time c.loop-bytes.machine records_here
           c.run_records.new.machine =
           subst (λ rs. RunsRecords g.M.Machine.steps head.time c.loop-bytes.machine rs c.run_records.new.machine)
           same_records (c.in_ok-run_records.ensures.ran clean) in
-          let inside : at + sector + 24 + head.len ≤ c.args.len = search (rules, arith, c.in_ok-head.ensures.records) in
+          let inside : at + sector + 32 + head.len ≤ c.args.len = search (rules, arith, c.in_ok-head.ensures.records) in
           let len_is = c.requires.measured (so_far.reads.clean (one.clean mid_clean)) in (
             before.0 ++ (head.time, records_here) ∷ [],
             read_more file before.0 at (at + (4096 + c.whole.result)) (head.time, records_here) before.1 (omega arith)
                 (search (rules, arith, c.in_ok-head.ensures.within, c.whole.ensures, len_is)) at_done,
             ap (λ n. n + 1) before.2 ∙ sym (length-append before.0 ((head.time, records_here) ∷ [])),
-            marked_more c.loop-bytes.has_mark head.time head.len before.0 (drop (at + sector + 24) file) before.3
-                (omega (arith, length-drop (at + sector + 24) file, len_is, inside)),
+            marked_more c.loop-bytes.has_mark head.time head.len before.0 (drop (at + sector + 32) file) before.3
+                (omega (arith, length-drop (at + sector + 32) file, len_is, inside)),
             runs_more g.M.Machine.steps _ _ _ before.0 (head.time, records_here) before.4 ran,
           );
     }

@@ -9,7 +9,7 @@ use Rattle.journal.proofs.sectors.write_batch.Goals as goal
 
 pub returns-in_err-write_sectors-clause-others : goal.returns-in_err-write_sectors-clause-others
 returns-in_err-write_sectors-clause-others g c =
-    let n = 24 + length c.args.bytes.now in
+    let n = 32 + length c.args.bytes.now in
     let w = is_whole n in
     let long : length c.sector_of.result ≡ 4096 = search rules in
     torn_wider c.args.at (whole n) c.args.at (length c.sector_of.result) _ _ (omega arith)
@@ -17,7 +17,7 @@ returns-in_err-write_sectors-clause-others g c =
 
 pub returns-in_err-write_sectors-clause-crash : goal.returns-in_err-write_sectors-clause-crash
 returns-in_err-write_sectors-clause-crash g c =
-    let n = 24 + length c.args.bytes.now in
+    let n = 32 + length c.args.bytes.now in
     let w = is_whole n in
     let long : length c.sector_of.result ≡ 4096 = search rules in
     follows_wider c.args.at (whole n) c.args.at (length c.sector_of.result) _ _ (omega arith)
@@ -25,12 +25,12 @@ returns-in_err-write_sectors-clause-crash g c =
 
 pub overflow_add-at : goal.overflow_add-at
 overflow_add-at g c =
-    let w = is_whole (24 + length c.args.bytes.now) in record
+    let w = is_whole (32 + length c.args.bytes.now) in record
     { fits = omega (arith, w.no_less, w.even, c.requires.fits) }
 
 pub write_padded-requires-clause-fits : goal.write_padded-requires-clause-fits
 write_padded-requires-clause-fits g c =
-    let w = is_whole (24 + length c.args.bytes.now) in
+    let w = is_whole (32 + length c.args.bytes.now) in
     let v = is_whole (length c.split_at.result.1.now) in
     omega (
       arith,
@@ -51,7 +51,7 @@ returns-clause-written g c =
     let front = c.split_at.result.0.now in
     let rest = c.split_at.result.1.now in
     let mid = g.D.Disk.seen c.write_sectors.new.disk in
-    let head_len : length head ≡ 24 = search rules in
+    let head_len : length head ≡ 32 = search rules in
     let long : length c.sector_of.result ≡ 4096 = search rules in
     let begun : Holds mid c.args.at (head ++ front) =
     subst (λ (l : List ℕ). Holds mid c.args.at l) c.sector_of.ensures
@@ -77,7 +77,7 @@ returns-clause-written g c =
 
 pub returns-clause-others : goal.returns-clause-others
 returns-clause-others g c =
-    let n = 24 + length c.args.bytes.now in
+    let n = 32 + length c.args.bytes.now in
     let w = is_whole n in
     let long : length c.sector_of.result ≡ 4096 = search rules in
     let v = is_whole (length c.split_at.result.1.now) in
@@ -98,7 +98,7 @@ returns-clause-others g c =
 
 pub returns-clause-crash : goal.returns-clause-crash
 returns-clause-crash g c =
-    let n = 24 + length c.args.bytes.now in
+    let n = 32 + length c.args.bytes.now in
     let w = is_whole n in
     let long : length c.sector_of.result ≡ 4096 = search rules in
     let v = is_whole (length c.split_at.result.1.now) in

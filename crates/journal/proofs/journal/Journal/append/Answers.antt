@@ -1,9 +1,10 @@
-use Rattle.std.proofs.Common.{◌≡◌, ◌+◌, length, subst, sym, ap, ◌∙◌, inl, inr, arith, rules}
+use Rattle.std.proofs.Common.{take, ◌≤◌, ◌≡◌, ◌+◌, length, subst, sym, ap, ◌∙◌, inl, inr, arith, rules}
 use Rattle.sqlite_disk.specs.Disk.{Torn}
 use Rattle.journal.specs.Gate.{IsStaged}
 use Rattle.journal.specs.Batch.{batch_size}
 use Rattle.journal.specs.Format.{stored, records, whole, sector}
 use Rattle.journal.proofs.Listing.{is_whole}
+use Rattle.journal.proofs.Places.{same_back}
 use Rattle.journal.proofs.Commit.{stored_rests, still_kept, kept_alone, one_more, either, committed, staged_still}
 use Rattle.journal.proofs.Commit.{front_stays}
 use Rattle.journal.proofs.journal.Journal.append.Goals as goal
@@ -59,11 +60,11 @@ returns-in-Err-open_gate-clause-closes g c opened =
     let items = c.args.batch.now.bytes.items in
     let new = g.D.Disk.seen c.open_gate.new.disk in
     let same : bytes ≡ items = c.bytes-bytes.ensures in
-    let after : it.end + sector + whole (24 + length bytes) ≡ it.end + batch_size c.args.batch.now = omega
-    (arith, ap (λ l. whole (24 + length l)) same) in
+    let after : it.end + sector + whole (32 + length bytes) ≡ it.end + batch_size c.args.batch.now = omega
+    (arith, ap (λ l. whole (32 + length l)) same) in
     let here = staged_still _ _ _ _ _ new c.open_gate.ensures.others c.in_default-stage.ensures.staged in
     inr (subst (λ n. IsStaged it.end n it.count (c.args.time, records items) new) after
-    (subst (λ l. IsStaged it.end (it.end + sector + whole (24 + length bytes)) it.count (c.args.time, records l) new)
+    (subst (λ l. IsStaged it.end (it.end + sector + whole (32 + length bytes)) it.count (c.args.time, records l) new)
     same here))
 
 pub returns-in-Err-open_gate-clause-front : goal.returns-in-Err-open_gate-clause-front
@@ -77,7 +78,7 @@ returns-in-Err-open_gate-clause-front g c opened clean file may =
 
 pub invariant_of-self-2-clause-begins : goal.invariant_of-self-2-clause-begins
 invariant_of-self-2-clause-begins g c =
-    let w = is_whole (24 + length c.bytes-bytes.result.now) in
+    let w = is_whole (32 + length c.bytes-bytes.result.now) in
     let it = c.args.self.now in
     omega (arith, w.even, it.begins, c.in-Some.ensures.0)
 
@@ -103,6 +104,15 @@ invariant_of-self-2-clause-rests g c opened clean file may =
     c.bytes-bytes.ensures c.open_gate.ensures.others c.in_default-open_gate.ensures.open _ _ c.in-Some.ensures.0
     c.max-self.ensures in
     kept_alone _ _ _ _ _ file done (c.in_default-open_gate.ensures.synced file may)
+
+pub returns-clause-copied : goal.returns-clause-copied
+returns-clause-copied g c clean =
+    let end = c.args.self.now.end in
+    let file = g.D.Disk.seen c.stage.new.disk in
+    let staged = c.in_default-stage.ensures.staged in
+    let within : end + sector ≤ length file = omega (arith, staged.after, staged.within) in
+    c.in_default-open_gate.ensures.copied ∙ c.head_of-head.ensures ∙ sym c.in_default-stage.ensures.headed
+    ∙ sym (ap (λ l. take 32 l) (same_back end sector _ _ c.open_gate.ensures.others within))
 
 pub returns-clause-added : goal.returns-clause-added
 returns-clause-added g c clean =
