@@ -89,7 +89,7 @@ fn what_would_go_goes(rt: HostRuntime) -> Result<(), Fail> {
         assert_eq!(rt; after.dead.files, 0, "seed {seed}");
         assert!(rt; after.needed.files >= before.needed.files, "seed {seed}");
         // what is used up, and what is promised
-        assert!(rt; after.dead.records <= 64, "seed {seed}");
+        assert!(rt; after.dead.records <= 160, "seed {seed}");
         assert_eq!(rt; (before.unread, after.unread), (0, 0), "seed {seed}");
     }
     assert!(rt; are_dead, "no file is dead");

@@ -9,6 +9,8 @@ mod play;
 #[cfg(test)]
 mod replays;
 #[cfg(test)]
+mod rooms;
+#[cfg(test)]
 mod shelf;
 #[cfg(test)]
 mod texts;

@@ -2,10 +2,11 @@
 
 use crate::play::{Play, limits, name};
 use crate::shelf::Shelf;
+use crate::texts::seal;
 use std::alloc::{AllocError, Global};
 use std::process::Abort;
 use std::test::Fail;
-use upload_journal::{Replay, ReplayFault};
+use upload_journal::{Replay, ReplayFault, moments_text, numbers_text};
 use upload_service::{Answer, Ask, Service};
 
 /// A list of so many requests.
@@ -70,7 +71,7 @@ fn a_replay_equals_what_was_served(rt: HostRuntime) -> Result<(), Fail> {
     Ok(())
 }
 
-/// The last byte of an entry is the last one of its answer.
+/// The last byte of an entry before its checksum is the last one of its answer.
 #[test]
 fn another_answer_is_noticed(rt: HostRuntime) -> Result<(), Fail> {
     let mut noticed: u32 = 0;
@@ -79,10 +80,12 @@ fn another_answer_is_noticed(rt: HostRuntime) -> Result<(), Fail> {
         let Some(mut text) = play.texts.pop() else {
             continue;
         };
+        text.truncate(text.len().saturating_sub(8));
         let Some(last) = text.pop() else {
             continue;
         };
         text.push(if last == b'0' { b'1' } else { b'0' })?;
+        seal(&mut text)?;
         play.texts.push(text)?;
         let mut replay = new_replay(rt.alloc());
         let fault = replay_of(rt.alloc(), &mut replay, &mut play);
@@ -136,10 +139,10 @@ fn numbers_and_moments_are_used_up(rt: HostRuntime) -> Result<(), Fail> {
     let mut play = play_of(rt.alloc(), 0, 0)?;
     let mut replay = new_replay(rt.alloc());
     for text in [
-        b"\x06\0\0\0\x07".as_slice(),
-        b"\x06\0\0\0\x05".as_slice(),
-        b"\x07\0\0\0\0\0\0\0\x3c".as_slice(),
-        b"\x07\0\0\0\0\0\0\0\x09".as_slice(),
+        numbers_text(7).as_slice(),
+        numbers_text(5).as_slice(),
+        moments_text(60).as_slice(),
+        moments_text(9).as_slice(),
     ]
     .iter()
     {

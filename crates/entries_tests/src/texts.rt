@@ -1,11 +1,13 @@
-//! The text of each kind of entry, spelled by hand: it is read, and each part of it that is cut off or changed is
-//! refused or read as another entry.
+//! The text of each kind of entry, spelled by hand: with its checksum it is read, and refused if any part of it is cut
+//! off or changed.
 
 use std::alloc::{AllocError, Global};
+use std::hash::{DefaultHasher, Hasher};
 use std::process::Abort;
 use std::test::Fail;
 use upload_journal::{
-    BodyFile, BodyFiles, Entry, EntryFault, KeptAsk, KeptBody, KeptExchange, ReadError, read_entry,
+    BodyFile, BodyFiles, Entry, EntryFault, KeptAsk, KeptBody, KeptExchange, ReadError,
+    moments_text, numbers_text, read_damaged, read_entry,
 };
 
 const NAME: &[u8] = b"\0\0\0\x05lib/a";
@@ -28,7 +30,7 @@ const ABC: &[u8] = b"\0\0\0\0\x03abc";
 const FILES: &[u8] =
     b"\x01\0\0\0\x02\0\0\0\0\0\0\0\x07\0\0\0\0\0\0\0\x01\0\0\0\0\0\0\0\x08\0\0\0\0\0\0\0\x02";
 
-/// Texts of entries, in parts.
+/// Texts of entries without their checksums, in parts.
 static TEXTS: [&[&[u8]]; 8] = [
     &[b"\x01", NAME, SECRET, NOW, b"\x01", AT],
     &[b"\x02", NAME, DIGEST, ABC, SECRET, NOW, b"\x03", DIGEST],
@@ -60,7 +62,7 @@ static TEXTS: [&[&[u8]]; 8] = [
     &[b"\x07\0\0\0\0\0\0\x01\0"],
 ];
 
-/// Texts that are none, each with its fault.
+/// Texts that are none, also with a checksum, each with its fault.
 static FAULTS: [(&[&[u8]], EntryFault); 10] = [
     (&[], EntryFault::Short),
     (&[b"\0"], EntryFault::UnknownKind),
@@ -92,6 +94,26 @@ fn joined(alloc: Global, parts: &[&[u8]]) -> Result<Vec<u8>, AllocError> {
     Ok(text)
 }
 
+/// Puts the checksum of a text behind it.
+pub fn seal(text: &mut Vec<u8>) -> Result<(), AllocError> {
+    let mut hasher = DefaultHasher::new();
+    hasher.write(text.as_slice());
+    text.extend_from_slice(&hasher.finish().to_be_bytes())
+}
+
+/// Changes bits of the byte at a place, if there is one.
+fn flip(text: &mut Vec<u8>, at: usize, bits: u8) {
+    if let Some(byte) = text.get_mut(at) {
+        *byte ^= bits;
+    }
+}
+
+fn sealed(alloc: Global, parts: &[&[u8]]) -> Result<Vec<u8>, AllocError> {
+    let mut text = joined(alloc, parts)?;
+    seal(&mut text)?;
+    Ok(text)
+}
+
 /// The fault of a text, or None if it is an entry.
 fn fault_of(alloc: Global, text: &[u8]) -> Result<Option<EntryFault>, AllocError> {
     match read_entry(alloc, text) {
@@ -104,10 +126,35 @@ fn fault_of(alloc: Global, text: &[u8]) -> Result<Option<EntryFault>, AllocError
 #[test]
 fn each_kind_is_read(rt: HostRuntime) -> Result<(), Fail> {
     for parts in TEXTS.iter() {
-        let text = joined(rt.alloc(), parts)?;
+        let text = sealed(rt.alloc(), parts)?;
         assert!(rt; fault_of(rt.alloc(), &text)?.is_none());
+    }
+    Ok(())
+}
+
+#[test]
+fn a_text_that_is_cut_is_refused(rt: HostRuntime) -> Result<(), Fail> {
+    for parts in TEXTS.iter() {
+        let text = sealed(rt.alloc(), parts)?;
         for cut in 0..text.len() {
-            assert!(rt; fault_of(rt.alloc(), &text[..cut])? == Some(EntryFault::Short));
+            let wanted = if cut < 8 {
+                EntryFault::Short
+            } else {
+                EntryFault::BadChecksum
+            };
+            assert!(rt; fault_of(rt.alloc(), &text[..cut])? == Some(wanted));
+        }
+    }
+    Ok(())
+}
+
+#[test]
+fn so_is_one_that_ends_early_under_its_checksum(rt: HostRuntime) -> Result<(), Fail> {
+    for parts in TEXTS.iter() {
+        let text = joined(rt.alloc(), parts)?;
+        for cut in 0..text.len() {
+            let text = sealed(rt.alloc(), &[&text[..cut]])?;
+            assert!(rt; fault_of(rt.alloc(), &text)? == Some(EntryFault::Short));
         }
     }
     Ok(())
@@ -118,32 +165,52 @@ fn a_byte_more_is_refused(rt: HostRuntime) -> Result<(), Fail> {
     for parts in TEXTS.iter() {
         let mut text = joined(rt.alloc(), parts)?;
         text.push(0)?;
+        seal(&mut text)?;
         assert!(rt; fault_of(rt.alloc(), &text)? == Some(EntryFault::Trailing));
     }
     Ok(())
 }
 
 #[test]
-fn a_flipped_byte_is_refused_or_another_entry(rt: HostRuntime) -> Result<(), Fail> {
-    let mut refused: u32 = 0;
+fn each_flipped_bit_is_found(rt: HostRuntime) -> Result<(), Fail> {
     for parts in TEXTS.iter() {
-        let mut text = joined(rt.alloc(), parts)?;
+        let mut text = sealed(rt.alloc(), parts)?;
         for at in 0..text.len() {
-            text[at] ^= 0x80;
-            if fault_of(rt.alloc(), &text)?.is_some() {
-                refused = refused.saturating_add(1);
+            for bit in [1u8, 2, 4, 8, 16, 32, 64, 128] {
+                flip(&mut text, at, bit);
+                assert!(rt; fault_of(rt.alloc(), &text)? == Some(EntryFault::BadChecksum));
+                flip(&mut text, at, bit);
             }
-            text[at] ^= 0x80;
         }
     }
-    assert!(rt; refused > 400);
+    Ok(())
+}
+
+#[test]
+fn what_a_damaged_entry_was_is_read(rt: HostRuntime) -> Result<(), Fail> {
+    for parts in TEXTS.iter() {
+        let mut text = sealed(rt.alloc(), parts)?;
+        let last = text.len().saturating_sub(1);
+        flip(&mut text, last, 1);
+        assert!(rt; fault_of(rt.alloc(), &text)? == Some(EntryFault::BadChecksum));
+        assert!(rt; read_damaged(rt.alloc(), &text).is_ok());
+    }
+    Ok(())
+}
+
+#[test]
+fn checksums_are_as_they_ever_were(rt: HostRuntime) -> Result<(), Fail> {
+    let numbers = b"\x06\0\0\x01\0\x30\x51\x96\x25\x71\x8d\x8e\x86";
+    let moments = b"\x07\0\0\0\0\0\0\x01\0\x1d\xf2\x0d\xcc\x77\xf9\xc5\xef";
+    assert!(rt; numbers_text(256).as_slice() == numbers.as_slice());
+    assert!(rt; moments_text(256).as_slice() == moments.as_slice());
     Ok(())
 }
 
 #[test]
 fn each_fault_is_named(rt: HostRuntime) -> Result<(), Fail> {
     for (parts, fault) in FAULTS.iter() {
-        let text = joined(rt.alloc(), parts)?;
+        let text = sealed(rt.alloc(), parts)?;
         assert!(rt; fault_of(rt.alloc(), &text)? == Some(*fault), "{fault:?}");
     }
     Ok(())
@@ -166,7 +233,7 @@ fn files_of(entry: Entry) -> Option<BodyFiles> {
 
 #[test]
 fn the_files_of_a_chunk_are_read(rt: HostRuntime) -> Result<(), Fail> {
-    let text = joined(rt.alloc(), TEXTS[3])?;
+    let text = sealed(rt.alloc(), TEXTS[3])?;
     let entry = read_entry(rt.alloc(), &text).ok().ok_or("an entry")?;
     let files = files_of(entry).ok_or("a chunk in files")?;
     let wanted = [

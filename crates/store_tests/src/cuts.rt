@@ -7,7 +7,7 @@ use sqlite_disk::{Crash, Disk, Fuse, Memory};
 use std::alloc::{AllocError, Global};
 use std::io;
 use std::test::Fail;
-use upload_journal::{BodyFile, Replay};
+use upload_journal::{BodyFile, Replay, moments_text};
 use upload_service::Service;
 use upload_store::{CrashShelf, Store};
 
@@ -17,8 +17,8 @@ const COUNT: u64 = 12;
 /// Half of a sector.
 const HALF: usize = 2048;
 
-/// Answers may have been given up to moment 60.
-const MOMENTS: &[u8] = b"\x07\0\0\0\0\0\0\0\x3c";
+/// Answers may have been given up to this moment.
+const MOMENTS: u64 = 60;
 
 type Kept = Store<Fuse<Memory>, FuseShelf<MemoryShelf>>;
 
@@ -150,7 +150,7 @@ fn lived(alloc: Global, calls: Calls, seed: u64) -> Result<(u64, bool, Kept), Al
     let mut acknowledged = 0;
     let mut is_promised = false;
     if let Ok(replay) = store.recover(alloc) {
-        is_promised = append(alloc, &mut store, MOMENTS, 0)?;
+        is_promised = append(alloc, &mut store, &moments_text(MOMENTS), 0)?;
         if is_promised {
             let mut served = Served::new(alloc, replay.into_service(), seed);
             acknowledged = keep(alloc, &mut store, &mut served)?;
@@ -190,7 +190,7 @@ fn comes_back(
     let Ok(replay) = store.recover(alloc) else {
         return Ok(false);
     };
-    if is_promised && replay.moment() < 60 {
+    if is_promised && replay.moment() < MOMENTS {
         return Ok(false);
     }
     is_model(alloc, replay, seed, wanted)

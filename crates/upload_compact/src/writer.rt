@@ -4,7 +4,7 @@ use journal::{Batch, Error, Journal, Machine};
 use sqlite_disk::Disk;
 use std::alloc::Global;
 use std::io::{self, ErrorKind};
-use upload_journal::{BodyFile, Draft};
+use upload_journal::{BodyFile, Draft, moments_text, numbers_text};
 use upload_service::{Answer, Ask};
 use upload_store::StoreFault;
 
@@ -97,14 +97,12 @@ impl<N: Disk + Drop> Writer<N> {
 
     /// Adds an entry by which the numbers up to this one are used up.
     pub fn use_up(&mut self, time: u64, number: u32) -> Result<(), CompactFault> {
-        let [a, b, c, d] = number.to_be_bytes();
-        self.add(time, &[6, a, b, c, d])
+        self.add(time, &numbers_text(number))
     }
 
     /// Adds an entry that promises the moments up to this one.
     pub fn promise(&mut self, time: u64, moment: u64) -> Result<(), CompactFault> {
-        let [a, b, c, d, e, f, g, h] = moment.to_be_bytes();
-        self.add(time, &[7, a, b, c, d, e, f, g, h])
+        self.add(time, &moments_text(moment))
     }
 
     /// Adds the entry of a request, whose body is in these files, or in the entry if there are none.

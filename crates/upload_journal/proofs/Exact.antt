@@ -18,7 +18,7 @@ IsBytes bytes = (i : ℕ) → get_or bytes i 0 < 256
 IsBytes-drop : (n : ℕ) (bytes : List ℕ) → IsBytes bytes → IsBytes (drop n bytes)
 IsBytes-drop n bytes h i = rw get_or-drop (h (n + i))
 
-IsBytes-take : (n : ℕ) (bytes : List ℕ) → IsBytes bytes → IsBytes (take n bytes)
+pub IsBytes-take : (n : ℕ) (bytes : List ℕ) → IsBytes bytes → IsBytes (take n bytes)
 IsBytes-take n bytes h i =
     elim (cases_lt i n) [
       | inl lt ↦ rw (get_or-take n bytes i 0 lt) (h i)
@@ -36,6 +36,11 @@ pub guard_ok : {A : Type 0} (b : Bool) (fault : EntryFault) (x : Result A EntryF
     → cond b (Err fault) x ≡ Ok y → (b ≡ false) × (x ≡ Ok y)
 guard_ok true fault x y e = absurd cc
 guard_ok false fault x y e = (refl, e)
+
+-- one that passed a value on
+pub ended : {A : Type 0} (b : Bool) (fault : EntryFault) (x y : A) → cond b (Ok x) (Err fault) ≡ Ok y → (b ≡ true) × (x ≡ y)
+ended true fault x y e = (refl, cc)
+ended false fault x y e = absurd cc
 
 abbrev done : {A : Type 0} → A → Result A EntryFault
 done x = Ok x

@@ -1,6 +1,7 @@
 pub mod Files
 pub mod Names
 pub mod Exact
+pub mod Checksums
 pub mod Values
 pub mod Texts
 pub mod Restart

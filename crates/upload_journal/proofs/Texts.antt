@@ -1,5 +1,5 @@
 -- Entries are read exactly.
-use Rattle.std.proofs.Common.{◌≡◌, ℕ, ◌^◌, ◌<◌, Bool, true, false, cond, eqb, List, [], ◌∷◌, ◌++◌, length, Option}
+use Rattle.std.proofs.Common.{◌≡◌, ℕ, ◌^◌, ◌<◌, false, cond, eqb, List, [], ◌∷◌, ◌++◌, length, Option}
 use Rattle.std.proofs.Common.{Result, Ok, Err, refl, sym, ap, subst, ◌∙◌, append_assoc, inl, inr}
 use Rattle.std.specs.Prelude.{IsTrue, IfOk}
 use Rattle.std.specs.Int.{w32, w64, to_be_bytes}
@@ -23,10 +23,13 @@ use Rattle.upload_journal.specs.Fields.{◌>>=◌, Read, Gives, both, made, byte
 use Rattle.upload_journal.specs.Fields.{digest_at}
 use Rattle.upload_journal.specs.Fields.{reference_at, range_at, body_at, told_at, measured, range_text, body_text}
 use Rattle.upload_journal.specs.Fields.{told_text, IsReference, IsKeptBody, IsTold}
-use Rattle.upload_journal.specs.Entries.{ask_text, asked_text, entry_text, IsKeptAsk, IsKeptExchange, IsEntry}
+use Rattle.upload_journal.specs.Entries.{ask_text, asked_text, plain_text, entry_text, IsKeptAsk, IsKeptExchange}
+use Rattle.upload_journal.specs.Entries.{IsEntry}
 use Rattle.upload_journal.specs.Entries.{opening_at, single_at, mount_at, chunk_at, close_at, ask_at, exchange_at}
-use Rattle.upload_journal.specs.Entries.{entry_at, entry_of}
-use Rattle.upload_journal.proofs.Exact.{IsBytes, bind_ok, IsExact, both_exact, made_takes, made_again}
+use Rattle.upload_journal.specs.Entries.{entry_at, plain_of, entry_of}
+use Rattle.upload_journal.specs.Checksums.{with_checksum, checked}
+use Rattle.upload_journal.proofs.Checksums.{checked_found, checked_again}
+use Rattle.upload_journal.proofs.Exact.{IsBytes, bind_ok, ended, IsExact, both_exact, made_takes, made_again}
 use Rattle.upload_journal.proofs.Exact.{bytes_exact, number32, number64}
 use Rattle.upload_journal.proofs.Values.{chosen, Took, marked, name_exact, digest_exact}
 use Rattle.upload_journal.proofs.Values.{reference_exact, IsRange, range_exact, body_exact, told_exact}
@@ -229,15 +232,15 @@ exchanges_exact = record {
 -- ---- entries
 
 exchange_taken : (kind : ℕ) (bytes : List ℕ) (entry : Entry) (rest : List ℕ) → IsBytes (kind ∷ bytes)
-    → made Exchange (exchange_at kind) bytes ≡ Ok (entry, rest) → Took entry_text IsEntry (kind ∷ bytes) entry rest
+    → made Exchange (exchange_at kind) bytes ≡ Ok (entry, rest) → Took plain_text IsEntry (kind ∷ bytes) entry rest
 unfolding exchanges_at
 exchange_taken kind bytes entry rest fits e =
     let m = made_takes Exchange exchanges_at exchange_text IsKeptExchange exchanges_exact (kind ∷ bytes) entry rest
     fits e in
-    subst (λ y. Took entry_text IsEntry (kind ∷ bytes) y rest) (sym m.is) (m.parts, m.lawful, m.fits)
+    subst (λ y. Took plain_text IsEntry (kind ∷ bytes) y rest) (sym m.is) (m.parts, m.lawful, m.fits)
 
 entry_takes : (bytes : List ℕ) (entry : Entry) (rest : List ℕ) → IsBytes bytes → entry_at bytes ≡ Ok (entry, rest)
-    → Took entry_text IsEntry bytes entry rest
+    → Took plain_text IsEntry bytes entry rest
 unfolding entry_at
 entry_takes [] entry rest fits e = absurd cc
 entry_takes (kind ∷ bytes) entry rest fits e =
@@ -245,11 +248,11 @@ entry_takes (kind ∷ bytes) entry rest fits e =
     let moments = cond (eqb kind 7) (made MomentsUpTo (number_at w64) bytes) others in
     elim (chosen (eqb kind 6) (made NumbersUpTo (number_at w32) bytes) moments (Ok (entry, rest)) e) [
       | inl p ↦
-          marked NumbersUpTo (number_at w32) _ _ entry_text IsEntry 6 number32 (λ n. refl) (λ n h. h) (kind ∷ bytes)
+          marked NumbersUpTo (number_at w32) _ _ plain_text IsEntry 6 number32 (λ n. refl) (λ n h. h) (kind ∷ bytes)
           bytes rest entry fits (ap (λ (k : ℕ). k ∷ bytes) (eqb-true _ _ p.0)) p.1
       | inr p ↦ elim (chosen (eqb kind 7) (made MomentsUpTo (number_at w64) bytes) others (Ok (entry, rest)) p.1) [
         | inl q ↦
-            marked MomentsUpTo (number_at w64) _ _ entry_text IsEntry 7 number64 (λ n. refl) (λ n h. h)
+            marked MomentsUpTo (number_at w64) _ _ plain_text IsEntry 7 number64 (λ n. refl) (λ n h. h)
             (kind ∷ bytes) bytes rest entry fits (ap (λ (k : ℕ). k ∷ bytes) (eqb-true _ _ q.0)) q.1
         | inr q ↦ exchange_taken kind bytes entry rest fits q.1
       ]
@@ -287,7 +290,7 @@ exchange_again (kind ∷ bytes) x rest e =
     let other = other_kind kind bytes x rest e in
     rw (other.0, other.1, e) refl
 
-entry_again : (entry : Entry) (rest : List ℕ) → IsEntry entry → entry_at (entry_text entry ++ rest) ≡ Ok (entry, rest)
+entry_again : (entry : Entry) (rest : List ℕ) → IsEntry entry → entry_at (plain_text entry ++ rest) ≡ Ok (entry, rest)
 unfolding entry_at
 entry_again (Exchange x) rest lawful =
     exchange_again (exchange_text x ++ rest) x rest (exchanges_exact.again x rest lawful)
@@ -296,27 +299,37 @@ entry_again (MomentsUpTo m) rest lawful = made_again MomentsUpTo (number_at w64)
 
 -- ---- whole texts
 
-ended : {A : Type 0} (b : Bool) (fault : EntryFault) (x y : A) → cond b (Ok x) (Err fault) ≡ Ok y → (b ≡ true) × (x ≡ y)
-ended true fault x y e = (refl, cc)
-ended false fault x y e = absurd cc
-
-pub entry_found : (bytes : List ℕ) (entry : Entry) → IsBytes bytes → entry_of bytes ≡ Ok entry
-    → IsEntry entry × (bytes ≡ entry_text entry)
-unfolding entry_of
-entry_found bytes entry fits e =
+plain_found : (bytes : List ℕ) (entry : Entry) → IsBytes bytes → plain_of bytes ≡ Ok entry
+    → IsEntry entry × (bytes ≡ plain_text entry)
+unfolding plain_of
+plain_found bytes entry fits e =
     let a = bind_ok (entry_at bytes) (λ x. cond (eqb (length x.1) 0) (Ok x.0) (Err Trailing)) entry e in
     let g = ended (eqb (length a.0.1) 0) Trailing a.0.0 entry a.2 in
     let took = entry_takes bytes a.0.0 a.0.1 fits a.1 in
     let nothing : a.0.1 ≡ [] = nil_from_length a.0.1 (eqb-true _ _ g.0) in
-    subst (λ y. IsEntry y × (bytes ≡ entry_text y)) g.1
-    (took.1, took.0 ∙ ap (λ (r : List ℕ). entry_text a.0.0 ++ r) nothing ∙ append-nil (entry_text a.0.0))
+    subst (λ y. IsEntry y × (bytes ≡ plain_text y)) g.1
+    (took.1, took.0 ∙ ap (λ (r : List ℕ). plain_text a.0.0 ++ r) nothing ∙ append-nil (plain_text a.0.0))
+
+plain_read : (entry : Entry) → IsEntry entry → plain_of (plain_text entry) ≡ Ok entry
+unfolding plain_of
+plain_read entry lawful =
+    let one : entry_at (plain_text entry) ≡ Ok (entry, []) =
+    ap entry_at (sym (append-nil (plain_text entry))) ∙ entry_again entry [] lawful in
+    rw one refl
+
+-- ---- behind them their checksums
+
+entry_found : (bytes : List ℕ) (entry : Entry) → IsBytes bytes → entry_of bytes ≡ Ok entry
+    → IsEntry entry × (bytes ≡ entry_text entry)
+entry_found bytes entry fits e =
+    let a = bind_ok (checked bytes) plain_of entry e in
+    let found = checked_found bytes a.0 a.1 in
+    let plain = plain_found a.0 entry (found.1 fits) a.2 in
+    (plain.0, found.0 ∙ ap with_checksum plain.1)
 
 pub entry_read : (entry : Entry) → IsEntry entry → entry_of (entry_text entry) ≡ Ok entry
-unfolding entry_of
 entry_read entry lawful =
-    let one : entry_at (entry_text entry) ≡ Ok (entry, []) =
-    ap entry_at (sym (append-nil (entry_text entry))) ∙ entry_again entry [] lawful in
-    rw one refl
+    ap (λ (r : Result (List ℕ) EntryFault). r >>= plain_of) (checked_again (plain_text entry)) ∙ plain_read entry lawful
 
 pub is_found : (bytes : List ℕ) (r : Result Entry ReadError) → IsBytes bytes → Gives (λ x. x) r (entry_of bytes)
     → IfOk r (λ entry. IsEntry entry × (bytes ≡ entry_text entry))

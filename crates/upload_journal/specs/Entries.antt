@@ -16,6 +16,7 @@ use Rattle.upload_journal.specs.declared.entries.Entry.TheVariants.{Exchange, Nu
 use Rattle.upload_journal.specs.Fields.{◌>>=◌, Read, both, made, byte_at, bytes_at, number_at, name_at, digest_at}
 use Rattle.upload_journal.specs.Fields.{reference_at, range_at, body_at, told_at, measured, range_text, body_text}
 use Rattle.upload_journal.specs.Fields.{told_text, IsReference, IsKeptBody, IsTold}
+use Rattle.upload_journal.specs.Checksums.{with_checksum, checked, unchecked}
 
 -- ---- texts: the kind of the entry in one byte, and its fields
 
@@ -33,10 +34,14 @@ ask_text (Close name at range digest body) =
 abbrev pub asked_text : KeptAsk → List ℕ → ℕ → List ℕ
 asked_text ask secret now = ask_text ask ++ (secret ++ to_be_bytes w64 now)
 
+-- what stands before the checksum
+abbrev pub plain_text : Entry → List ℕ
+plain_text (Exchange x) = asked_text x.ask x.secret x.now ++ told_text x.answer
+plain_text (NumbersUpTo n) = 6 ∷ to_be_bytes w32 n
+plain_text (MomentsUpTo m) = 7 ∷ to_be_bytes w64 m
+
 abbrev pub entry_text : Entry → List ℕ
-entry_text (Exchange x) = asked_text x.ask x.secret x.now ++ told_text x.answer
-entry_text (NumbersUpTo n) = 6 ∷ to_be_bytes w32 n
-entry_text (MomentsUpTo m) = 7 ∷ to_be_bytes w64 m
+entry_text entry = with_checksum (plain_text entry)
 
 -- ---- what has a text
 
@@ -101,8 +106,16 @@ entry_at bytes = do
       else if kind.0 == 7 then made MomentsUpTo (number_at w64) kind.1
       else made Exchange (exchange_at kind.0) kind.1
 
--- what a whole text is read as
-unfoldable pub entry_of : List ℕ → Result Entry EntryFault
-entry_of bytes = do
-  x ← entry_at bytes
+-- what a whole text before its checksum is read as
+unfoldable pub plain_of : List ℕ → Result Entry EntryFault
+plain_of text = do
+  x ← entry_at text
   if length x.1 == 0 then Ok x.0 else Err Trailing
+
+-- what an entry's bytes are read as
+abbrev pub entry_of : List ℕ → Result Entry EntryFault
+entry_of bytes = checked bytes >>= plain_of
+
+-- the same, whatever the checksum: what a damaged entry may have been
+abbrev pub legible_of : List ℕ → Result Entry EntryFault
+legible_of bytes = unchecked bytes >>= plain_of

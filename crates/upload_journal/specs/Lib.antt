@@ -1,4 +1,5 @@
 pub mod Fields
+pub mod Checksums
 pub mod Entries
 pub mod Short
 pub mod Restart

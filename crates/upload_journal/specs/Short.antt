@@ -72,9 +72,9 @@ IsPlaced other files = Unit {0}
 abbrev pub Fits : Ask → List BodyFile → Type 0
 Fits ask files = (length files < 2 ^ 32) × IsPlaced ask files
 
--- the most bytes of the text of an answer in short
-abbrev pub most_told : ℕ
-most_told = 140
+-- the most bytes behind a request: of an answer in short, and of a checksum
+abbrev pub most_behind : ℕ
+most_behind = 148
 
 -- the text of what is kept of a request stands behind what stood there, if something is kept
 abbrev pub PutsAsk : Bool → List ℕ → List ℕ → Option KeptAsk → Type 0

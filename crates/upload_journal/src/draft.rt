@@ -6,11 +6,14 @@ ghost use Rattle.std.specs.List.{concat, flat_map};
 ghost use Rattle.upload_names.specs.Digest.{digest_text};
 ghost use Rattle.upload_names.specs.Reference.{reference_text};
 ghost use Rattle.upload_journal.specs.Fields.{measured, range_text, file_text, body_text, told_text};
-ghost use Rattle.upload_journal.specs.Entries.{ask_text, asked_text};
+ghost use Rattle.upload_journal.specs.Entries.{ask_text, asked_text, entry_text};
+ghost use Rattle.upload_journal.specs.declared.entries.Entry.TheVariants.{MomentsUpTo, NumbersUpTo};
 ghost use Rattle.upload_journal.specs.Short.{told_of, kept_body, kept_range, kept_of, HasPlace, IsPlaced};
-ghost use Rattle.upload_journal.specs.Short.{most_told, PutsAsk, Fits};
+ghost use Rattle.upload_journal.specs.Short.{most_behind, PutsAsk, Fits};
+ghost use Rattle.upload_journal.specs.Checksums.{with_checksum};
 
 use crate::body::BodyFile;
+use crate::checksum::checksum;
 use crate::entries::Told;
 use crate::reading::MOST_HERE;
 use std::alloc::{AllocError, Global};
@@ -218,11 +221,12 @@ fn kept_range(range: Extent) -> Option<Option<ByteRange>>
     }
 }
 
-/// The most bytes of an answer in short: a mark, and the text of a digest behind its length.
-const MOST_TOLD: usize = 140;
+/// The most bytes behind a request: of an answer in short, which are a mark and the text of a digest behind its length,
+/// and of a checksum.
+const MOST_BEHIND: usize = 148;
 
-/// The text of an entry that is begun before its step: what the service is given. It has room for the answer, so that
-/// what the step has changed can be written.
+/// The text of an entry that is begun before its step: what the service is given. It has room for the answer and the
+/// checksum, so that what the step has changed can be written.
 #[derive(Drop)]
 pub struct Draft {
     bytes: Vec<u8>,
@@ -230,13 +234,13 @@ pub struct Draft {
 
 impl Model for Draft {
     ghost use Rattle.std.specs.Prelude.{List, ℕ, ◌+◌, ◌≤◌, vec_len, vec_capacity};
-    ghost use Rattle.upload_journal.specs.Short.{most_told};
+    ghost use Rattle.upload_journal.specs.Short.{most_behind};
 
     ghost Value = { List ℕ };
 
     ghost view = { λ a. a.bytes.items };
 
-    ghost invariant = { λ a. vec_len a.bytes + most_told ≤ vec_capacity a.bytes };
+    ghost invariant = { λ a. vec_len a.bytes + most_behind ≤ vec_capacity a.bytes };
 }
 
 impl Draft {
@@ -266,14 +270,14 @@ impl Draft {
         }
         bytes.extend_from_slice(secret)?;
         bytes.extend_from_slice(&now.to_be_bytes())?;
-        bytes.reserve(MOST_TOLD)?;
+        bytes.reserve(MOST_BEHIND)?;
         Ok(Some(Draft { bytes }))
     }
 
     /// The text of the whole entry, or `None` if the answer says that nothing has changed. It takes no memory.
     pub fn finish(self, answer: &Answer) -> Option<Vec<u8>>
         ensures { option_map (λ text. text.items) result
-            ≡ option_map (λ told. self ++ told_text told) (told_of answer.now) }
+            ≡ option_map (λ told. with_checksum (self ++ told_text told)) (told_of answer.now) }
     {
         let Draft { mut bytes } = self;
         match answer {
@@ -282,6 +286,8 @@ impl Draft {
             Answer::Stored { digest, .. } => put_stored(&mut bytes, digest),
             _ => return None,
         }
+        let sum = checksum(bytes.as_slice());
+        put_reserved(&mut bytes, &sum);
         Some(bytes)
     }
 }
@@ -300,27 +306,50 @@ fn put_reserved(out: &mut Vec<u8>, bytes: &[u8])
 }
 
 fn put_begun(out: &mut Vec<u8>, at: &UploadRef)
-    requires { vec_len out.old + most_told ≤ vec_capacity out.old }
-    ensures { out.new.items ≡ out.old.items ++ told_text (Told.Begun at.now) }
+    requires { vec_len out.old + most_behind ≤ vec_capacity out.old }
+    ensures items { out.new.items ≡ out.old.items ++ told_text (Told.Begun at.now) }
+    ensures room { vec_len out.new + 8 ≤ vec_capacity out.new }
 {
     put_reserved(out, &[1, 0, 0, 0, 36]);
     put_reserved(out, at.text().as_slice());
 }
 
 fn put_taken(out: &mut Vec<u8>, next: u64)
-    requires { vec_len out.old + most_told ≤ vec_capacity out.old }
-    ensures { out.new.items ≡ out.old.items ++ told_text (Told.Taken next) }
+    requires { vec_len out.old + most_behind ≤ vec_capacity out.old }
+    ensures items { out.new.items ≡ out.old.items ++ told_text (Told.Taken next) }
+    ensures room { vec_len out.new + 8 ≤ vec_capacity out.new }
 {
     put_reserved(out, &[2]);
     put_reserved(out, &next.to_be_bytes());
 }
 
 fn put_stored(out: &mut Vec<u8>, digest: &BlobDigest)
-    requires { vec_len out.old + most_told ≤ vec_capacity out.old }
-    ensures { out.new.items ≡ out.old.items ++ told_text (Told.Stored digest.now) }
+    requires { vec_len out.old + most_behind ≤ vec_capacity out.old }
+    ensures items { out.new.items ≡ out.old.items ++ told_text (Told.Stored digest.now) }
+    ensures room { vec_len out.new + 8 ≤ vec_capacity out.new }
 {
     let text = digest.text();
     put_reserved(out, &[3]);
     put_reserved(out, &(text.as_bytes().len() as u32).to_be_bytes());
     put_reserved(out, text.as_bytes());
+}
+
+/// The whole text of the entry by which the numbers up to this one are used up.
+pub fn numbers_text(number: u32) -> [u8; 13]
+    ensures { result ≡ entry_text (NumbersUpTo number) }
+{
+    let [a, b, c, d] = number.to_be_bytes();
+    let text = [6, a, b, c, d];
+    let [e, f, g, h, i, j, k, l] = checksum(&text);
+    [6, a, b, c, d, e, f, g, h, i, j, k, l]
+}
+
+/// The whole text of the entry that promises the moments up to this one.
+pub fn moments_text(moment: u64) -> [u8; 17]
+    ensures { result ≡ entry_text (MomentsUpTo moment) }
+{
+    let [a, b, c, d, e, f, g, h] = moment.to_be_bytes();
+    let text = [7, a, b, c, d, e, f, g, h];
+    let [i, j, k, l, m, n, o, p] = checksum(&text);
+    [7, a, b, c, d, e, f, g, h, i, j, k, l, m, n, o, p]
 }

@@ -25,6 +25,9 @@ pub enum EntryFault {
     BadAnswer,
     /// Bytes stand behind the last field.
     Trailing,
+    /// The checksum isn't that of the bytes before it: some of them have changed. This is seen before any other fault of
+    /// a text that has a checksum.
+    BadChecksum,
 }
 
 /// Why no entry was read.

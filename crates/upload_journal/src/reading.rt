@@ -6,10 +6,12 @@ ghost use Rattle.upload_journal.specs.Fields.{reference_at, span_at, range_at, f
 ghost use Rattle.upload_journal.specs.Fields.{reference_in};
 ghost use Rattle.upload_journal.specs.Fields.{told_at, here_at};
 ghost use Rattle.upload_journal.specs.Entries.{opening_at, single_at, mount_at, chunk_at, close_at, ask_at};
-ghost use Rattle.upload_journal.specs.Entries.{exchange_at, entry_at, entry_of, entry_text, IsEntry};
+ghost use Rattle.upload_journal.specs.Entries.{exchange_at, entry_at, plain_of, entry_of, entry_text, IsEntry};
+ghost use Rattle.upload_journal.specs.Entries.{legible_of};
 ghost use Rattle.upload_journal.specs.declared.entries.Entry.{Entry as EntryValue};
 
 use crate::body::{BodyFile, BodyFiles, KeptBody};
+use crate::checksum::{checked, unchecked};
 use crate::entries::{Entry, KeptAsk, KeptExchange, Told};
 use crate::fault::{EntryFault, ReadError};
 use std::alloc::Global;
@@ -331,16 +333,22 @@ fn take_entry(alloc: Global, bytes: &mut &[u8]) -> Result<Entry, ReadError>
     }
 }
 
-#[tactic(auto, unfolding(crate::specs::Entries::entry_of))]
-fn whole(alloc: Global, bytes: &[u8]) -> Result<Entry, ReadError>
-    ensures { Gives (λ x. x) result (entry_of bytes.now) }
+#[tactic(auto, unfolding(crate::specs::Entries::plain_of))]
+fn plain(alloc: Global, text: &[u8]) -> Result<Entry, ReadError>
+    ensures { Gives (λ x. x) result (plain_of text.now) }
 {
-    let mut rest = bytes;
+    let mut rest = text;
     let entry = take_entry(alloc, &mut rest)?;
     if !rest.is_empty() {
         return Err(ReadError::Fault(EntryFault::Trailing));
     }
     Ok(entry)
+}
+
+fn whole(alloc: Global, bytes: &[u8]) -> Result<Entry, ReadError>
+    ensures { Gives (λ x. x) result (entry_of bytes.now) }
+{
+    plain(alloc, checked(bytes)?)
 }
 
 /// Reads an entry, which is all of the bytes. It takes memory for the names and the body, or the list of files, that
@@ -351,8 +359,15 @@ pub fn read_entry(alloc: Global, bytes: &[u8]) -> Result<Entry, ReadError>
     // What is written so is read as that, unless memory runs out.
     ensures only { (entry : EntryValue) → IsEntry entry → bytes.now ≡ entry_text entry
         → Gives (λ x. x) result (Ok entry) }
-    // Any other text has the first fault that is met from left to right.
+    // Any other text has the first fault that is met: in the checksum, and then from left to right.
     ensures exact { Gives (λ x. x) result (entry_of bytes.now) }
 {
     whole(alloc, bytes)
+}
+
+/// Reads what an entry may have been that is damaged: its checksum isn't looked at.
+pub fn read_damaged(alloc: Global, bytes: &[u8]) -> Result<Entry, ReadError>
+    ensures { Gives (λ x. x) result (legible_of bytes.now) }
+{
+    plain(alloc, unchecked(bytes)?)
 }

@@ -7,6 +7,7 @@ ghost use Rattle.upload_journal.specs.Stops.{FileFails, FilesFail, files_of, fil
 ghost use Rattle.upload_journal.specs.Short.{told_of};
 ghost use Rattle.upload_journal.specs.Replay.{Joins, IsBodyOf, extent_of, IsAskOf, IsExchangeOf, Exchanged, Point};
 ghost use Rattle.upload_journal.specs.Replay.{Applies, used_up};
+ghost use Rattle.upload_service.specs.Machine.{Turn, IsLawful};
 ghost use Rattle.upload_service.specs.Run.{Exchange};
 
 use crate::bodies::{Bodies, BodyFault};
@@ -265,6 +266,39 @@ fn ask_of<B: Bodies>(alloc: Global, bodies: &mut B, ask: KeptAsk) -> Result<Ask,
     }
 }
 
+/// How many bytes the body of a request has.
+fn body_size(ask: &Ask) -> u64 {
+    match ask {
+        Ask::Single { body, .. } => body.len() as u64,
+        Ask::Chunk { body, .. } => body.len() as u64,
+        Ask::Close { body, .. } => body.len() as u64,
+        _ => 0,
+    }
+}
+
+/// Whether a service may lack the room for a request.
+fn is_short(service: &Service, ask: &Ask) -> bool {
+    if service.is_scarce() {
+        return true;
+    }
+    match service.room() {
+        Ok(Some(room)) => room.left() < body_size(ask),
+        _ => false,
+    }
+}
+
+/// Has a service serve a request again. If it may lack the room, idle uploads give way first: so they had when the
+/// request found room.
+fn serve(service: &mut Service, ask: Ask, secret: [u8; 12], now: u64) -> Answer
+    ensures turn { Turn service.old ask secret now result service.new }
+    ensures lawful { IsLawful service.new }
+{
+    if is_short(service, &ask) {
+        service.give_way(&InPlace, now);
+    }
+    service.step(ask, secret, now)
+}
+
 /// A service that entries are run through again, one after another. It is seen as how far it has come.
 #[derive(Drop)]
 pub struct Replay {
@@ -401,7 +435,7 @@ impl Replay {
         if !may_come(&self.service, &ask, &secret, &answer) {
             return Err(ReplayFault::NotAsRecorded);
         }
-        match compare(self.service.step(ask, secret, now), answer) {
+        match compare(serve(&mut self.service, ask, secret, now), answer) {
             Compared::Same => {
                 self.last = now;
                 Ok(())

@@ -14,6 +14,7 @@ use Rattle.upload_journal.specs.declared.entries.KeptAsk.TheVariants as kept
 use Rattle.upload_service.specs.declared.answer.Answer.{Answer}
 use Rattle.upload_journal.specs.declared.entries.Told.{Told}
 use Rattle.upload_journal.specs.Entries.{IsKeptAsk, asked_text}
+use Rattle.upload_journal.specs.Checksums.{with_checksum}
 use Rattle.upload_journal.specs.Fields.{IsFile, IsKeptBody, IsTold, told_text}
 use Rattle.upload_journal.specs.Replay.{IsAskOf, IsBodyOf}
 use Rattle.upload_journal.specs.Short.{kept_of, kept_body, IsPlaced, HasPlace, told_of}
@@ -135,11 +136,11 @@ module _ (stands : ℕ → List ℕ → Type 0) where
   pub records_so : (ask : Ask) (secret : List ℕ) (moment : ℕ) (answer : Answer) (files : List BodyFile)
       (draft text : List ℕ) → IsSound ask → IfSome (told_of answer) IsTold → ArePlaced stands ask files
       → option_map (λ k. asked_text k secret moment) (kept_of ask files) ≡ Some draft
-      → Some text ≡ option_map (λ told. draft ++ told_text told) (told_of answer) → length secret ≡ 12 → moment < 2 ^ 64
+      → Some text ≡ option_map (λ told. with_checksum (draft ++ told_text told)) (told_of answer) → length secret ≡ 12 → moment < 2 ^ 64
       → Records stands text (record { ask = ask; secret = secret; now = moment; answer = answer })
   records_so ask secret moment answer files draft text sound told placed drafted finished len small =
       let k = some_map (λ (k : KeptAsk). asked_text k secret moment) (kept_of ask files) draft drafted in
-      let t = some_map (λ (t : Told). draft ++ told_text t) (told_of answer) text (sym finished) in
+      let t = some_map (λ (t : Told). with_checksum (draft ++ told_text t)) (told_of answer) text (sym finished) in
       let is = kept_as ask files k.0 sound placed k.1 in
       record {
         entry = record { ask = k.0; secret = secret; now = moment; answer = t.0 };
@@ -149,7 +150,7 @@ module _ (stands : ℕ → List ℕ → Type 0) where
           now = small;
           answer = subst (λ (o : Option Told). IfSome o IsTold) t.1 told;
         };
-        text_is = sym t.2 ∙ ap (λ (d : List ℕ). d ++ told_text t.0) (sym k.2);
+        text_is = sym t.2 ∙ ap (λ (d : List ℕ). with_checksum (d ++ told_text t.0)) (sym k.2);
         is = record { ask = is.1; secret = refl; now = refl; answer = t.1 };
       }
 
@@ -177,7 +178,7 @@ drafted_so stands request files (Err e) drawn placed sound secret moment is made
 -- ended, it is the entry of the exchange behind what a batch holds
 pub entered : (stands : ℕ → List ℕ → Type 0) (request : Asked) (xs : List Exchange) (old new : List (List ℕ))
     (draft text : List ℕ) (answer : Answer) → IsDrafted stands request draft → IfSome (told_of answer) IsTold
-    → Some text ≡ option_map (λ told. draft ++ told_text told) (told_of answer) → new ≡ old ++ text ∷ []
+    → Some text ≡ option_map (λ told. with_checksum (draft ++ told_text told)) (told_of answer) → new ≡ old ++ text ∷ []
     → Holds stands [] 0 xs 0 old → Holds stands [] 0 (xs ++ answered_so request answer ∷ []) 0 new
 entered stands request xs old new draft text answer d told finished grown holds =
     one_more stands xs old text (answered_so request answer) new holds

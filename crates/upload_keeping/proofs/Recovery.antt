@@ -21,6 +21,9 @@ use Rattle.upload_journal.specs.Replay.{Point, Replays}
 use Rattle.upload_journal.specs.Restart.{NeverAfter, changes_of}
 use Rattle.upload_journal.specs.Short.{told_of}
 use Rattle.upload_journal.proofs.Restart.{run_on, changes_are_enough}
+use Rattle.journal.specs.Format.{stored}
+use Rattle.upload_service.proofs.Serving.{empty_is_lawful}
+use Rattle.upload_store.proofs.Reruns.{is_replay}
 use Rattle.upload_store.specs.Found.{numbers_of}
 use Rattle.upload_store.specs.Runs.{stands_in, start_of}
 use Rattle.upload_store.specs.Safe.{HasSafe}
@@ -28,11 +31,12 @@ use Rattle.upload_store.specs.Store.{IsClean, IsWhole, MayLeave, shelf_of, limit
 use Rattle.upload_store.specs.declared.store.Store.{Store}
 use Rattle.upload_keeping.specs.Keeping.{LeavesJustThat}
 use Rattle.upload_keeping.specs.Books.{AreKept, LeavesFront, moment_of, start_in, kept_in, opened_in, since_in}
-use Rattle.upload_keeping.specs.Books.{is_whole_in}
-use Rattle.upload_keeping.specs.Told.{Recovers, HasTold, KeepsWhatIsTold, HoldsOverRestarts}
+use Rattle.upload_keeping.specs.Books.{is_whole_in, waiting_in}
+use Rattle.upload_keeping.specs.Told.{Recovers, HasTold, KeepsWhatIsTold, HoldsOverRestarts, CanBeRunAgain}
 use Rattle.upload_keeping.specs.declared.books.Books.{Books}
 use Rattle.upload_keeping.specs.declared.fault.KeepFault.{KeepFault}
-use Rattle.upload_keeping.proofs.Replays.{same_entries, replays_same, replays_split, replays_moved, runs_again}
+use Rattle.upload_keeping.proofs.Replays.{same_entries, replays_same, replays_split, replays_moved, replays_on}
+use Rattle.upload_keeping.proofs.Replays.{replays_there, runs_again}
 use Rattle.upload_keeping.proofs.Going.{front_none, first_none}
 
 heads : (a b : Asked) (ps qs : List Asked) → a ∷ ps ≡ b ∷ qs → a ≡ b
@@ -77,6 +81,14 @@ run_in_two old (x ∷ xs) ys new r =
 remembered_front : (xs ys : List Exchange) → AreRemembered (xs ++ ys) → AreRemembered xs
 remembered_front [] ys m = tt
 remembered_front (x ∷ xs) ys m = (m.0, remembered_front xs ys m.1)
+
+before_front : (moment : ℕ) (xs ys : List Exchange) → NeverBefore moment (xs ++ ys) → NeverBefore moment xs
+before_front moment [] ys n = tt
+before_front moment (x ∷ xs) ys n = (n.0, before_front x.now xs ys n.1)
+
+sooner : (moment later : ℕ) (xs : List Exchange) → moment ≤ later → NeverBefore later xs → NeverBefore moment xs
+sooner moment later [] le n = tt
+sooner moment later (x ∷ xs) le n = (omega (arith, le, n.0), n.1)
 
 -- who went on has the answer still
 has_still : (start : State) (xs : List Exchange) (mid : State) (heard : ℕ) (answer : Answer) (ys : List Exchange)
@@ -144,8 +156,7 @@ module _ {D S F : Type 0} {g : Ghosts D} {s : shelves.Ghosts S F} {f : Ghosts F}
       (fault_or_none b.fault)
 
   module _ (b : Books D S F g s f) (k : AreKept b) (none_lost : IsTrue (is_whole_in b)) (clean : IsClean b.store)
-      (whole : IsWhole (opened_in b)) (file : List ℕ) (files : ℕ → Option (List ℕ)) (left : LeavesFront b file files) (point : Point)
-      (recovers : Recovers (limits_of (opened_in b)) file files point) where
+      (whole : IsWhole (opened_in b)) (file : List ℕ) (files : ℕ → Option (List ℕ)) (left : LeavesFront b file files) where
     abbrev opened : Store D S F g s f
     opened = opened_in b
 
@@ -160,51 +171,78 @@ module _ {D S F : Type 0} {g : Ghosts D} {s : shelves.Ghosts S F} {f : Ghosts F}
         let same : has.0 ≡ bytes = some_is has.0 bytes (s.held (shelf_of opened) n) has.1.there there in
         left.leaves.bodies n has.0 has.1 ∙ ap (λ (l : List ℕ). Some l) same
 
-    -- it went over what the store had as it was opened, and comes to what was recovered then
-    goes_on : Replays (stands_in files) b.start.value left.leaves.holds.entries point
-    goes_on =
+    -- what the store had as it was opened comes to what was recovered then
+    moved : Replays (stands_in files) begin (k.begun none_lost (k.goes.clean clean)).entries b.start.value
+    moved =
         let first = k.begun none_lost (k.goes.clean clean) in
-        let behind = left.leaves.holds in
-        let moved : Replays (stands_in files) begin first.entries b.start.value =
         replays_moved Has (s.held (shelf_of opened)) files still begin first.entries b.start.value first.are_entries
         (subst (λ (l : List (List ℕ)). All (λ text. All Has (numbers_of text)) l) first.texts
-        (whole (k.goes.clean clean))) first.replays in
-        let all : recovers.entries ≡ first.entries ++ behind.entries =
-        same_entries recovers.entries (first.entries ++ behind.entries) recovers.are_entries
-        (All-append IsEntry first.entries behind.entries first.are_entries behind.are_entries)
-        (sym recovers.texts ∙ behind.texts_are ∙ (λ i. first.texts i ++ map entry_text behind.entries)
-        ∙ sym (map-append entry_text first.entries behind.entries)) in
-        let two =
-        replays_split files begin first.entries behind.entries point
-        (subst (λ (l : List Entry). Replays (stands_in files) begin l point) all recovers.replays) in
-        let same : two.0 ≡ b.start.value =
-        replays_same files begin first.entries two.0 b.start.value two.1 moved in
-        subst (λ (p : Point). Replays (stands_in files) p behind.entries point) same two.2
+        (whole (k.goes.clean clean))) first.replays
 
-    has_told : (kept more : List Exchange) (heard : ℕ) (answer : Answer) → MayBeHeard (start_in b) kept heard answer
-        → kept_in b ≡ kept ++ more → HasTold (start_in b) kept (more ++ left.front) heard b.upto answer point
-    has_told kept more heard answer may all =
-        let again =
-        runs_again files b.start.value left.leaves.holds.entries (kept_in b ++ left.front) point goes_on
-        left.leaves.holds.stand_for in
-        let asks : map asked_of again.exchanges ≡ map asked_of (kept ++ (more ++ left.front)) =
-        again.same ∙ ap (λ (l : List Exchange). map asked_of (l ++ left.front)) all
-        ∙ ap (map asked_of) (append_assoc kept more left.front) in
-        let parts = in_two again.exchanges kept (more ++ left.front) asks in
-        let runs =
-        run_in_two (start_in b) parts.front parts.back point.state
-        (subst (λ (l : List Exchange). Run (start_in b) l point.state) parts.split again.run) in
-        let has =
-        told_is_kept (start_in b) kept heard answer may parts.front runs.0 runs.1 parts.same
-        (remembered_front parts.front parts.back (subst AreRemembered parts.split again.remembered)) in
-        record {
-          later = parts.back;
-          same = parts.others;
-          has =
-              subst (λ (l : List Exchange). HasAnswer (start_in b) (l ++ parts.back) point.state heard answer) has.0
-              (has_still (start_in b) parts.front runs.0 heard answer parts.back point.state has.1 runs.2);
-          moment = omega (arith, left.leaves.holds.moments, again.later, again.promised);
-        }
+    -- and what was kept since goes on from there, if it is a run at no earlier moments
+    runs_on : (rest : List Exchange) (service : State) → Run (start_in b) ((kept_in b ++ left.front) ++ rest) service
+        → NeverBefore (since_in b) ((kept_in b ++ left.front) ++ rest)
+        → (point : Point) × Recovers (limits_of opened) file files point
+    runs_on rest service run before =
+        let first = k.begun none_lost (k.goes.clean clean) in
+        let behind = left.leaves.holds in
+        let kept = kept_in b ++ left.front in
+        let front = run_in_two (start_in b) kept rest service run in
+        let moments =
+        sooner b.start.value.last (since_in b) kept (omega arith) (before_front (since_in b) kept rest before) in
+        let there =
+        replays_there files b.start.value behind.entries kept front.0 behind.stand_for front.1 moments in (
+          there.0,
+          is_replay (stored file) files begin there.0 (first.entries ++ behind.entries)
+              (All-append IsEntry first.entries behind.entries first.are_entries behind.are_entries)
+              (behind.texts_are ∙ (λ i. first.texts i ++ map entry_text behind.entries)
+              ∙ sym (map-append entry_text first.entries behind.entries))
+              (empty_is_lawful (limits_of opened) 0)
+              (replays_on files begin first.entries behind.entries b.start.value there.0 moved there.1),
+        )
+
+    module _ (point : Point) (recovers : Recovers (limits_of (opened_in b)) file files point) where
+      -- it went over what the store had as it was opened
+      goes_on : Replays (stands_in files) b.start.value left.leaves.holds.entries point
+      goes_on =
+          let first = k.begun none_lost (k.goes.clean clean) in
+          let behind = left.leaves.holds in
+          let all : recovers.entries ≡ first.entries ++ behind.entries =
+          same_entries recovers.entries (first.entries ++ behind.entries) recovers.are_entries
+          (All-append IsEntry first.entries behind.entries first.are_entries behind.are_entries)
+          (sym recovers.texts ∙ behind.texts_are ∙ (λ i. first.texts i ++ map entry_text behind.entries)
+          ∙ sym (map-append entry_text first.entries behind.entries)) in
+          let two =
+          replays_split files begin first.entries behind.entries point
+          (subst (λ (l : List Entry). Replays (stands_in files) begin l point) all recovers.replays) in
+          let same : two.0 ≡ b.start.value =
+          replays_same files begin first.entries two.0 b.start.value two.1 moved in
+          subst (λ (p : Point). Replays (stands_in files) p behind.entries point) same two.2
+
+      has_told : (kept more : List Exchange) (heard : ℕ) (answer : Answer) → MayBeHeard (start_in b) kept heard answer
+          → kept_in b ≡ kept ++ more → HasTold (start_in b) kept (more ++ left.front) heard b.upto answer point
+      has_told kept more heard answer may all =
+          let again =
+          runs_again files b.start.value left.leaves.holds.entries (kept_in b ++ left.front) point goes_on
+          left.leaves.holds.stand_for in
+          let asks : map asked_of again.exchanges ≡ map asked_of (kept ++ (more ++ left.front)) =
+          again.same ∙ ap (λ (l : List Exchange). map asked_of (l ++ left.front)) all
+          ∙ ap (map asked_of) (append_assoc kept more left.front) in
+          let parts = in_two again.exchanges kept (more ++ left.front) asks in
+          let runs =
+          run_in_two (start_in b) parts.front parts.back point.state
+          (subst (λ (l : List Exchange). Run (start_in b) l point.state) parts.split again.run) in
+          let has =
+          told_is_kept (start_in b) kept heard answer may parts.front runs.0 runs.1 parts.same
+          (remembered_front parts.front parts.back (subst AreRemembered parts.split again.remembered)) in
+          record {
+            later = parts.back;
+            same = parts.others;
+            has =
+                subst (λ (l : List Exchange). HasAnswer (start_in b) (l ++ parts.back) point.state heard answer) has.0
+                (has_still (start_in b) parts.front runs.0 heard answer parts.back point.state has.1 runs.2);
+            moment = omega (arith, left.leaves.holds.moments, again.later, again.promised);
+          }
 
   pub keeps_told : (b : Books D S F g s f) → AreKept b → LeavesJustThat b.store → KeepsWhatIsTold b
   keeps_told b k just none_lost kept more heard answer may all clean whole file files leaves point recovers =
@@ -235,3 +273,12 @@ module _ {D S F : Type 0} {g : Ghosts D} {s : shelves.Ghosts S F} {f : Ghosts F}
       (subst (λ (l : List Exchange). Run (start_in b) l point.state)
       (sym may.changes_are_kept ∙ sym (same_changes xs)) again)
       (never_after 0 xs (moment_of point) may.served.moments (omega (arith, may.promised, upto, told.moment))) before run
+
+  pub can_be_run_again : (b : Books D S F g s f) → AreKept b → LeavesJustThat b.store → CanBeRunAgain b
+  can_be_run_again b k just none_lost service run before clean whole file files leaves =
+      let left = left_front b k just clean whole file files leaves in
+      let all : kept_in b ++ waiting_in b ≡ (kept_in b ++ left.front) ++ left.rest =
+      ap (λ (l : List Exchange). kept_in b ++ l) left.split ∙ sym (append_assoc (kept_in b) left.front left.rest) in
+      runs_on b k none_lost clean whole file files left left.rest service
+      (subst (λ (l : List Exchange). Run (start_in b) l service) all run)
+      (subst (λ (l : List Exchange). NeverBefore (since_in b) l) all before)

@@ -7,8 +7,8 @@ use Rattle.upload_service.specs.declared.ask.Ask.{Ask}
 use Rattle.upload_service.specs.declared.ask.Ask.TheVariants as asks
 use Rattle.upload_service.specs.declared.answer.Answer.{Answer}
 use Rattle.upload_service.specs.declared.answer.Answer.TheVariants.{NoMemory}
-use Rattle.upload_service.specs.Machine.{Turn}
-use Rattle.upload_service.specs.Run.{Exchange, Run}
+use Rattle.upload_service.specs.Machine.{State, Turn}
+use Rattle.upload_service.specs.Run.{Exchange, Run, NeverBefore}
 use Rattle.upload_intake.specs.Pools.Restarts.{asked_of, AreRemembered}
 use Rattle.upload_intake.specs.Safety.{Asked, asked}
 use Rattle.upload_intake.proofs.Orders.{turns_same}
@@ -130,6 +130,28 @@ module _ (files : ℕ → Option (List ℕ)) where
   replays_split old [] fs new r = (old, refl, r)
   replays_split old (e ∷ es) fs new r =
       let rest = replays_split r.0 es fs new r.2 in (rest.0, (r.0, r.1, rest.1), rest.2)
+
+  pub replays_on : (old : Point) (es fs : List Entry) (mid new : Point) → Replays (stands_in files) old es mid
+      → Replays (stands_in files) mid fs new → Replays (stands_in files) old (es ++ fs) new
+  replays_on old [] fs mid new r t = subst (λ (p : Point). Replays (stands_in files) p fs new) r t
+  replays_on old (e ∷ es) fs mid new r t = (r.0, r.1, replays_on r.0 es fs mid new r.2 t)
+
+  -- a run, at moments that don't fall, is what the entries do that stand for it
+  pub replays_there : (old : Point) (es : List Entry) (xs : List Exchange) (service : State)
+      → StandFor (stands_in files) es xs → Run old.state xs service → NeverBefore old.last xs
+      → (new : Point) × Replays (stands_in files) old es new
+  replays_there old [] xs service stand run before = (old, refl)
+  replays_there old (Kept e ∷ es) [] service stand run before = absurd stand
+  replays_there old (Kept e ∷ es) (x ∷ xs) service stand run before =
+      let mid : Point = record { state = run.0; last = x.now; upto = old.upto } in
+      let rest = replays_there mid es xs service stand.1 run.2 before.1 in (
+        rest.0,
+        (mid, (x, stand.0, record { turn = run.1; later = before.0; last = refl; upto = refl }), rest.1),
+      )
+  replays_there old (NumbersUpTo n ∷ es) xs service stand run before = absurd stand
+  replays_there old (MomentsUpTo m ∷ es) xs service stand run before =
+      let mid : Point = record old { upto = max old.upto m } in
+      let rest = replays_there mid es xs service stand run before in (rest.0, (mid, refl, rest.1))
 
   -- what entries that stand for these exchanges do, run again: the same requests, with the same answers in short
   pub record Again (old : Point) (es : List Entry) (ys : List Exchange) (new : Point) : Type 0 where

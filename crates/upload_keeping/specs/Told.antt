@@ -1,4 +1,5 @@
--- WHAT A RESTART HAS OF WHAT WAS TOLD: all of it, whatever a crash leaves, if no record was lost as the keeping began.
+-- WHAT A RESTART HAS OF WHAT WAS TOLD: all of it, whatever a crash leaves, if no record was lost as the keeping began; and
+-- that there is such a restart.
 use Rattle.std.specs.Prelude.{◌≡◌, ℕ, ◌≤◌, List, [], ◌∷◌, ◌++◌, map, Option, IsTrue}
 use Rattle.sqlite_disk.specs.declared.Disk.{Ghosts}
 use Rattle.bodies.specs.declared.shelf.Shelf as shelves
@@ -13,7 +14,7 @@ use Rattle.upload_intake.specs.Safety.{MayBeHeard}
 use Rattle.upload_journal.specs.Replay.{Point}
 use Rattle.upload_store.specs.Runs.{IsReplayOf, start_of}
 use Rattle.upload_store.specs.Store.{IsClean, IsWhole, MayLeave, limits_of}
-use Rattle.upload_keeping.specs.Books.{moment_of, start_in, kept_in, waiting_in, opened_in, is_whole_in}
+use Rattle.upload_keeping.specs.Books.{moment_of, start_in, kept_in, waiting_in, opened_in, since_in, is_whole_in}
 use Rattle.upload_keeping.specs.declared.books.Books.{Books}
 
 -- a recovery by a service with these limits, of this file of a journal and these files of bodies, comes so far
@@ -51,3 +52,12 @@ module _ {D S F : Type 0} {g : Ghosts D} {s : shelves.Ghosts S F} {f : Ghosts F}
       → (point : Point) → Recovers (limits_of (opened_in b)) file files point
       → (more : List Exchange) (service : State) → NeverBefore (moment_of point) more → Run point.state more service
       → Headline (start_in b) (may.front ++ may.x ∷ may.rest ++ more) service
+
+  -- Each crash leaves what a recovery goes over to its end, if what was kept and what waits is a run, at no moment before
+  -- that at which the keeping began.
+  abbrev pub CanBeRunAgain : Books D S F g s f → Type 0
+  CanBeRunAgain b =
+      IsTrue (is_whole_in b) → (service : State) → Run (start_in b) (kept_in b ++ waiting_in b) service
+      → NeverBefore (since_in b) (kept_in b ++ waiting_in b) → IsClean b.store → IsWhole (opened_in b)
+      → (file : List ℕ) (files : ℕ → Option (List ℕ)) → MayLeave b.store file files
+      → (point : Point) × Recovers (limits_of (opened_in b)) file files point

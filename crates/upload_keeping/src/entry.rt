@@ -2,8 +2,7 @@
 ghost use Rattle.std.specs.Prelude.{◌≡◌, ◌++◌, ◌∷◌, [], List, ℕ, OnOk, IfOk, IfSome, option_map, Ok, Some, None, length};
 ghost use Rattle.journal.specs.Batch.{batch_records};
 ghost use Rattle.upload_intake.specs.Safety.{Asked, asked, answered_so};
-ghost use Rattle.upload_journal.specs.declared.entries.Entry.TheVariants.{MomentsUpTo};
-ghost use Rattle.upload_journal.specs.Entries.{asked_text, entry_text};
+ghost use Rattle.upload_journal.specs.Entries.{asked_text};
 ghost use Rattle.upload_journal.specs.Short.{kept_of as kept_ask, Fits};
 ghost use Rattle.upload_service.specs.Run.{Exchange};
 ghost use Rattle.upload_store.specs.Safe.{IsSafe};
@@ -205,12 +204,4 @@ pub(crate) fn put_entry<D: Disk, S: Shelf>(
         return Err(KeepFault::NoMemory);
     }
     Ok(())
-}
-
-/// The text of the entry that promises the moments up to this one.
-pub(crate) fn moments_text(moment: u64) -> [u8; 9]
-    ensures { result ≡ entry_text (MomentsUpTo moment) }
-{
-    let [a, b, c, d, e, f, g, h] = moment.to_be_bytes();
-    [7, a, b, c, d, e, f, g, h]
 }

@@ -32,4 +32,4 @@ pub use host::KeepingHost;
 pub use keeping::StoreKeeping;
 pub use round::{Moments, keep_round, kept_is_on_the_disk};
 pub use salvaging::{Salvaged, salvage};
-pub use told::{headline_holds_over_restarts, told_is_on_the_disk};
+pub use told::{headline_holds_over_restarts, kept_can_be_run_again, told_is_on_the_disk};

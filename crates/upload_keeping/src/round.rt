@@ -10,12 +10,12 @@ ghost use Rattle.upload_store.specs.Store.{disk_of, is_open, journal_of};
 ghost use Rattle.upload_keeping.specs.Faults.{StopsBy};
 ghost use Rattle.upload_keeping.specs.Keeping.{Goes, KeepsBoth, LeavesEither, LeavesJustThat, Promises};
 
-use crate::entry::moments_text;
 use crate::fault::KeepFault;
 use bodies::Shelf;
 use journal::Batch;
 use sqlite_disk::Disk;
 use std::alloc::AllocError;
+use upload_journal::moments_text;
 use upload_store::Store;
 
 /// Moments are promised so many seconds ahead.

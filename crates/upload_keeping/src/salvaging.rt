@@ -19,6 +19,7 @@ use journal::{Batch, Error};
 use sqlite_disk::Disk;
 use std::alloc::Global;
 use upload_intake::KeptService;
+use upload_journal::numbers_text;
 use upload_store::{Losses, Salvage, Store, StoreFault};
 
 /// A keeping that has begun over a store that may be damaged.
@@ -27,14 +28,6 @@ pub struct Salvaged<D: Disk, S: Shelf, H> {
     pub kept: KeptService<StoreKeeping<D, S, H>>,
     /// The records that are lost.
     pub losses: Losses,
-}
-
-/// The text of the entry by which the numbers up to this one are used up.
-fn numbers_text(number: u32) -> [u8; 5]
-    ensures { result ≡ entry_text (NumbersUpTo number) }
-{
-    let [a, b, c, d] = number.to_be_bytes();
-    [6, a, b, c, d]
 }
 
 /// Notes in a store that the numbers up to this one are used up, with the time of day in seconds since 1970.

@@ -1,5 +1,5 @@
 //! What was told is on the disk.
-ghost use Rattle.upload_keeping.specs.Told.{HoldsOverRestarts, KeepsWhatIsTold};
+ghost use Rattle.upload_keeping.specs.Told.{CanBeRunAgain, HoldsOverRestarts, KeepsWhatIsTold};
 
 use crate::keeping::StoreKeeping;
 use crate::round::kept_is_on_the_disk;
@@ -28,6 +28,16 @@ pub fn told_is_on_the_disk<D: Disk, S: Shelf, H>(keeping: &StoreKeeping<D, S, H>
 /// `told_is_on_the_disk`.
 pub fn headline_holds_over_restarts<D: Disk, S: Shelf, H>(keeping: &StoreKeeping<D, S, H>)
     ensures { ∥ HoldsOverRestarts keeping.now.books ∥₁ }
+{
+    kept_is_on_the_disk(&keeping.books.store);
+}
+
+/// What every crash leaves can be run again to its end, so that a start loses nothing of it: by the contract of
+/// `Store::salvage` a record is lost then only if a call of the disk failed. What was kept and what waits has to be a
+/// run, as a pool's keeper shows at each `keep`, and none of its moments before the one at which the keeping began. The
+/// other premises are those of `told_is_on_the_disk`.
+pub fn kept_can_be_run_again<D: Disk, S: Shelf, H>(keeping: &StoreKeeping<D, S, H>)
+    ensures { ∥ CanBeRunAgain keeping.now.books ∥₁ }
 {
     kept_is_on_the_disk(&keeping.books.store);
 }

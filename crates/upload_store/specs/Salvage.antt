@@ -18,7 +18,7 @@ use Rattle.upload_journal.specs.declared.entries.Entry.TheVariants.{Exchange, Nu
 use Rattle.upload_journal.specs.declared.fault.EntryFault.{EntryFault}
 use Rattle.upload_journal.specs.declared.replay.ReplayFault.{ReplayFault}
 use Rattle.upload_journal.specs.declared.replay.ReplayFault.TheVariants as faults
-use Rattle.upload_journal.specs.Entries.{IsEntry, entry_text, entry_of}
+use Rattle.upload_journal.specs.Entries.{IsEntry, entry_text, entry_of, legible_of}
 use Rattle.upload_journal.specs.Replay.{Point, used_up, Applies}
 use Rattle.upload_journal.specs.Stops.{Stops}
 use Rattle.upload_store.specs.declared.fault.Loss.{Loss}
@@ -107,7 +107,7 @@ lose_at it time text fault = record {
   lost = one_more it.lost;
   listed =
       listed_with it.listed
-      (record { time = time; place = it.place; fault = fault; entry = result_ok (entry_of text) });
+      (record { time = time; place = it.place; fault = fault; entry = result_ok (legible_of text) });
   named = max it.named (of_read highest (entry_of text));
   past = max it.past (past (numbers_of text));
 }

@@ -1,10 +1,11 @@
 //! The records of a journal, run through a service again, behind records that can't be.
 ghost use Rattle.std.specs.Prelude.{◌≡◌, ◌↔◌, IfOk, OnOk, IsTrue};
 ghost use Rattle.std.specs.Result.{result_ok};
-ghost use Rattle.upload_journal.specs.Entries.{entry_of};
+ghost use Rattle.upload_journal.specs.Entries.{entry_of, legible_of};
 ghost use Rattle.upload_journal.specs.declared.replay.ReplayFault.TheVariants as Fault;
+ghost use Rattle.upload_store.specs.Found.{numbers_of};
 ghost use Rattle.upload_store.specs.Rescuing.{Rescues, Since, LacksMemory};
-ghost use Rattle.upload_store.specs.Salvage.{before, of_read, ready, lose_at};
+ghost use Rattle.upload_store.specs.Salvage.{before, highest, of_read, past, ready, lose_at};
 
 use crate::fault::{Loss, RefusedRecord};
 use crate::losses::Losses;
@@ -14,7 +15,7 @@ use bodies::Shelf;
 use journal::Machine;
 use std::alloc::{AllocError, Global};
 use std::io::{self, ErrorKind};
-use upload_journal::{Entry, ReadError, ReplayFault, read_entry};
+use upload_journal::{Entry, ReadError, ReplayFault, read_damaged, read_entry};
 use upload_service::Limits;
 
 /// A service that the records of a journal are run through, over those that are lost.
@@ -24,13 +25,26 @@ pub struct Rescue<S: Shelf> {
     pub losses: Losses,
 }
 
-/// What a record is read as, if it is an entry. At `Err` there is no memory.
-fn entry_in(alloc: Global, bytes: &[u8]) -> Result<Option<Entry>, AllocError>
-    ensures { IfOk result (λ entry. entry ≡ result_ok (entry_of bytes.now)) }
+/// What a record is legible as, also if its checksum is wrong. At `Err` there is no memory.
+fn legible_in(alloc: Global, bytes: &[u8]) -> Result<Option<Entry>, AllocError>
+    ensures { IfOk result (λ entry. entry ≡ result_ok (legible_of bytes.now)) }
 {
-    match read_entry(alloc, bytes) {
+    match read_damaged(alloc, bytes) {
         Ok(entry) => Ok(Some(entry)),
         Err(ReadError::Fault(_)) => Ok(None),
+        Err(ReadError::NoMemory) => Err(AllocError),
+    }
+}
+
+/// The highest number of a session that a record names, and the first one above those of its files; or 0, if it is no
+/// entry. At `Err` there is no memory.
+fn numbers_in(alloc: Global, bytes: &[u8]) -> Result<(u32, u64), AllocError>
+    ensures { IfOk result (λ numbers. (numbers.0 ≡ of_read highest (entry_of bytes.now))
+        × (numbers.1 ≡ past (numbers_of bytes.now))) }
+{
+    match read_entry(alloc, bytes) {
+        Ok(entry) => Ok((highest(&entry), past_files(&entry))),
+        Err(ReadError::Fault(_)) => Ok((0, 0)),
         Err(ReadError::NoMemory) => Err(AllocError),
     }
 }
@@ -85,17 +99,15 @@ impl<S: Shelf> Rescue<S> {
         Ok(())
     }
 
-    /// Notes that a record is lost. At `Err` there is no memory.
+    /// Notes that a record is lost: of one that has changed, what it may have been, but no number. At `Err` there is no
+    /// memory.
     fn lose(&mut self, time: u64, fault: ReplayFault, bytes: &[u8]) -> Result<(), AllocError>
         ensures lost { OnOk result
             (stand_of self.new ≡ lose_at (stand_of self.old) time bytes.now fault) }
         ensures files { files_at self.new ≡ files_at self.old }
     {
-        let entry = entry_in(self.rerun.alloc, bytes)?;
-        let (named, past) = match &entry {
-            Some(entry) => (highest(entry), past_files(entry)),
-            None => (0, 0),
-        };
+        let entry = legible_in(self.rerun.alloc, bytes)?;
+        let (named, past) = numbers_in(self.rerun.alloc, bytes)?;
         let place = self.rerun.count;
         let loss = Loss {
             time,

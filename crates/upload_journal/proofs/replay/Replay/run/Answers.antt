@@ -15,21 +15,21 @@ returns-in-Same-clause-ok g c =
       ask = c.in-Ok.ask;
       secret = c.args.exchange.secret;
       now = c.args.exchange.now;
-      answer = c.step.result;
+      answer = c.serve.result;
     } in
     let new : Point =
-    record { state = c.step.new.self; last = c.args.exchange.now; upto = c.self.inside.upto } in (
+    record { state = c.serve.new.service; last = c.args.exchange.now; upto = c.self.inside.upto } in (
       x,
       record { ask = c.in-Ok.ensures.asked; secret = refl; now = refl; answer = c.in-Same.ensures.same refl },
       subst (λ (old : Point). Exchanged old x new) c.self.view_is
-          (record { turn = c.step.ensures.turn; later = c.if-now-self.false; last = refl; upto = refl }),
+          (record { turn = c.serve.ensures.turn; later = c.if-now-self.false; last = refl; upto = refl }),
     )
 
 pub returns-in-NoMemory-clause-err : goal.returns-in-NoMemory-clause-err
 returns-in-NoMemory-clause-err g c =
     let none = ap told_of (c.in-NoMemory.ensures.no_memory refl) in
-    let same = turn_stays c.self.inside.service c.in-Ok.ask c.args.exchange.secret c.args.exchange.now c.step.result
-    c.step.new.self c.step.ensures.turn none in
+    let same = turn_stays c.self.inside.service c.in-Ok.ask c.args.exchange.secret c.args.exchange.now c.serve.result
+    c.serve.new.service c.serve.ensures.turn none in
     ap (λ (s : State). record { state = s; last = c.self.inside.last; upto = c.self.inside.upto }) same ∙ c.self.view_is
 
 apart : (b : Bool) → b ≡ true → b ≡ false → ⊥
@@ -39,18 +39,18 @@ pub returns-in-Other-clause-err : goal.returns-in-Other-clause-err
 returns-in-Other-clause-err g c =
     let other = c.in-Other.ensures.other refl in
     let will = c.may_come.ensures.0 c.if-not-may_come.false in
-    let none = tells_none c.self.inside.service c.in-Ok.ask c.args.exchange.secret c.args.exchange.now c.step.result
-    c.step.new.self c.args.exchange.answer c.step.ensures.turn other.1 will other.0 in
-    let same = turn_stays c.self.inside.service c.in-Ok.ask c.args.exchange.secret c.args.exchange.now c.step.result
-    c.step.new.self c.step.ensures.turn none in
+    let none = tells_none c.self.inside.service c.in-Ok.ask c.args.exchange.secret c.args.exchange.now c.serve.result
+    c.serve.new.service c.args.exchange.answer c.serve.ensures.turn other.1 will other.0 in
+    let same = turn_stays c.self.inside.service c.in-Ok.ask c.args.exchange.secret c.args.exchange.now c.serve.result
+    c.serve.new.service c.serve.ensures.turn none in
     ap (λ (s : State). record { state = s; last = c.self.inside.last; upto = c.self.inside.upto }) same ∙ c.self.view_is
 
 pub returns-in-Other-clause-cause : goal.returns-in-Other-clause-cause
 returns-in-Other-clause-cause g c first kept =
     let stands = g.B.Bodies.stands c.ask_of.new.bodies in
     let other = c.in-Other.ensures.other refl in
-    let is = answer_is c.self.inside.service c.in-Ok.ask c.args.exchange.secret c.args.exchange.now c.step.result
-    c.step.new.self c.step.ensures.turn other.1 in
+    let is = answer_is c.self.inside.service c.in-Ok.ask c.args.exchange.secret c.args.exchange.now c.serve.result
+    c.serve.new.service c.serve.ensures.turn other.1 in
     let it : Point =
     record { state = c.self.inside.service; last = c.self.inside.last; upto = c.self.inside.upto } in
     let otherwise : AnswersOtherwise stands (g.B.Bodies.refused first c.ask_of.new.bodies) it c.args.exchange = record {
