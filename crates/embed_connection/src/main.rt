@@ -30,7 +30,7 @@ impl Desk for CountingDesk {
 
     fn ask(&mut self, ask: Ask) -> Option<Answer> {
         self.asked = self.asked.saturating_add(1);
-        // A server draws the secret at random, so that nobody guesses a session's reference.
+        // A server draws the secret at random, so that nobody guesses an upload's reference.
         Some(self.service.step(ask, [0; 12], 0))
     }
 }

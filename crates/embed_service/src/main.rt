@@ -12,7 +12,7 @@ use upload_bytes::Body;
 use upload_names::{BlobDigest, RepoName};
 use upload_service::{Answer, Ask, Limits, Service};
 
-/// 1 MiB a blob and a body, 16 open sessions, an hour without a chunk.
+/// 1 MiB a blob and a body, 16 open uploads, an hour without a chunk.
 const LIMITS: Limits = Limits {
     max_blob: 1 << 20,
     max_body: 1 << 20,
@@ -28,7 +28,7 @@ fn serve(service: &mut Service, alloc: Global, asks: Vec<Ask>) -> Result<Vec<Ans
         Headline service.old (exchanges (at_once asks.items) answers.items) service.new) }
     ensures err { OnErr result (service.new ≡ service.old) }
 {
-    // The secret goes into the references of sessions. A server draws it at random.
+    // The secret goes into the references of uploads. A server draws it at random.
     let jobs = asks.into_iter().map(|ask| (ask, [0; 12], 0));
     service.run_all(alloc, jobs.collect(alloc)?)
 }

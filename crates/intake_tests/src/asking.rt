@@ -35,6 +35,13 @@ impl<S> Promise<(SeatEnd, S)> for EndOf {
     ghost kept_by = { λ promise end. IsSameSeat promise.0.value end.0 };
 }
 
+/// What a seat hears of an ask, if it gets an answer.
+fn heard_by<R: Wait>(rt: &R, seat: &mut Seat, ask: Ask) -> Option<Answer>
+    ensures { IsSameSeat seat.old seat.new }
+{
+    seat.ask(rt, ask, [0; 12]).ok()
+}
+
 fn ask_all<R: Wait, S: Script + Drop>(rt: &R, seat: Seat, script: S) -> (SeatEnd, S)
     ensures { IsSameSeat seat result.0 }
 {
@@ -44,7 +51,7 @@ fn ask_all<R: Wait, S: Script + Drop>(rt: &R, seat: Seat, script: S) -> (SeatEnd
         let Some(ask) = script.next_ask() else {
             break;
         };
-        let Ok(answer) = seat.ask(rt, ask, [0; 12]) else {
+        let Some(answer) = heard_by(rt, &mut seat, ask) else {
             break;
         };
         script.heard(answer);

@@ -1,5 +1,6 @@
 //! Bodies of requests, in the parts that they were read in, and what a body is read into.
 ghost use Rattle.std.specs.Prelude.{◌≡◌, ◌++◌, List, ℕ, length, Some, None, IfOk, IfErr, IfSome, [], OnOk, OnErr};
+ghost use Rattle.std.specs.Prelude.{box_value};
 ghost use Rattle.sha2.specs.Hashers.{Holds256, Holds512};
 ghost use Rattle.upload_names.specs.Digest.{content_digest};
 ghost use Rattle.upload_bytes.specs.Body.{bytes_in, IsBody};
@@ -44,10 +45,11 @@ pub struct Behind {
 pub struct Body {
     pieces: Pieces,
     len: usize,
-    /// The hash of all the bytes, if they were hashed as they came.
-    running: Option<Running>,
+    /// The hash of all the bytes, if they were hashed as they came. A hash is large, and most requests have none: it has a
+    /// place of its own, so that a request takes little time to move.
+    running: Option<Box<Running>>,
     /// The hash of what an upload had received and all the bytes behind it, if they were hashed so.
-    behind: Option<Behind>,
+    behind: Option<Box<Behind>>,
     /// A file that has all the bytes, if they were written as they came, or why it hasn't.
     filed: Option<io::Result<SyncedFile>>,
 }
@@ -57,11 +59,13 @@ impl Model for Body {
 
     ghost Value = { List ℕ };
 
+    ghost use Rattle.std.specs.Prelude.{box_value, option_map};
     ghost use Rattle.upload_bytes.specs.Body.{bytes_in, IsBody};
 
     ghost view = { λ a. bytes_in a.pieces };
 
-    ghost invariant = { λ a. IsBody a.running a.behind a.filed a.len (bytes_in a.pieces) };
+    ghost invariant = { λ a. IsBody (option_map box_value a.running) (option_map box_value a.behind)
+        a.filed a.len (bytes_in a.pieces) };
 }
 
 impl Body {
@@ -102,6 +106,7 @@ impl Body {
     pub fn hashed_behind(self, front: Front) -> Body
         ensures { result ≡ self }
     {
+        let alloc = self.alloc();
         let Body {
             pieces,
             len,
@@ -115,7 +120,7 @@ impl Body {
             pieces,
             len,
             running,
-            behind: Some(Behind { front, hash }),
+            behind: boxed(alloc, Behind { front, hash }),
             filed,
         }
     }
@@ -130,6 +135,7 @@ impl Body {
         if !self.is_same(other) {
             return self;
         }
+        let alloc = self.alloc();
         let Body {
             pieces,
             len,
@@ -140,7 +146,7 @@ impl Body {
         Body {
             pieces,
             len,
-            running: Some(hash.copy()),
+            running: boxed(alloc, hash.copy()),
             behind,
             filed,
         }
@@ -196,9 +202,9 @@ impl Body {
     pub fn sha256(&self) -> Option<Sha256>
         ensures { IfSome result (λ hash. Holds256 hash self.now) }
     {
-        match &self.running {
-            Some(Running::Sha256(hash)) => hash.clone().ok(),
-            _ => None,
+        match &**self.running.as_ref()? {
+            Running::Sha256(hash) => hash.clone().ok(),
+            Running::Sha512(_) => None,
         }
     }
 
@@ -206,9 +212,9 @@ impl Body {
     pub fn sha512(&self) -> Option<Sha512>
         ensures { IfSome result (λ hash. Holds512 hash self.now) }
     {
-        match &self.running {
-            Some(Running::Sha512(hash)) => hash.clone().ok(),
-            _ => None,
+        match &**self.running.as_ref()? {
+            Running::Sha512(hash) => hash.clone().ok(),
+            Running::Sha256(_) => None,
         }
     }
 
@@ -272,6 +278,13 @@ impl Body {
         let Body { pieces, .. } = self;
         pieces
     }
+}
+
+/// A hash in a place of its own. Without memory for that it is dropped: who needs it hashes again.
+fn boxed<T: Drop>(alloc: Global, hash: T) -> Option<Box<T>>
+    ensures { IfSome result (λ place. box_value place ≡ hash) }
+{
+    Box::new(alloc, hash).ok()
 }
 
 /// How many bytes of these parts no room counts.
@@ -464,7 +477,10 @@ impl BodyBuilder {
         } = self;
         parts.shrink_to_fit();
         last.shrink();
-        let running = hash_of_all(place, hash, parts.as_slice(), last.as_slice());
+        let running = match hash_of_all(place, hash, parts.as_slice(), last.as_slice()) {
+            Some(hash) => boxed(alloc, hash),
+            None => None,
+        };
         let filed = place.put_down(alloc, file, parts.as_slice(), last.as_slice());
         Body {
             pieces: Pieces { parts, last },

@@ -396,17 +396,14 @@ impl HeadAsk {
         }
     }
 
-    /// By what the body is hashed as it comes: if it is large, and the service may want the hash of just its bytes.
-    /// A small body, and one that comes behind others, the service hashes with what is around it; `filled` is an upload
-    /// that is known to have bytes. What a chunk will be asked for, its close says; most say SHA-256.
+    /// By what the body is hashed as it comes: if the service may want the hash of just its bytes. A small chunk, and
+    /// one that comes behind others, the service hashes with what is around it; `filled` is an upload that is known to
+    /// have bytes. What a chunk will be asked for, its close says; most say SHA-256.
     pub fn hash_wanted(&self, framing: Framing, filled: Option<UploadRef>) -> Option<Algorithm> {
-        if let Framing::Length(length) = framing {
-            if length <= 65_536 {
-                return None;
-            }
-        }
+        let is_small = matches!(framing, Framing::Length(length) if length <= 65_536);
         match self {
             HeadAsk::Single { digest, .. } => Some((*digest)?.algorithm()),
+            _ if is_small => None,
             HeadAsk::Chunk { at, range, .. } if filled != Some(*at) && may_be_first(*range) => {
                 Some(Algorithm::Sha256)
             }

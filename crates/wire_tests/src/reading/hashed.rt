@@ -47,7 +47,7 @@ type Row = (
 );
 
 static ROWS: [Row; 17] = [
-    ("POST", SINGLE, DIGEST, "", Framed::Sized(65_536), None),
+    ("POST", SINGLE, DIGEST, "", Framed::Sized(3), SHA256),
     ("POST", SINGLE, DIGEST, "", Framed::Sized(65_537), SHA256),
     (
         "POST",
