@@ -109,6 +109,15 @@ impl<'a, L: Accepts + Drop, R: Clock + Eprint + Wait> Accepted<'a, L, R> {
         }
     }
 
+    /// Tells why no connection comes any more, unless the server has ended: that was told.
+    fn tell_last(&mut self, error: &io::Error)
+        ensures { (self.new.left ≡ self.old.left) × (self.new.door ≡ self.old.door) }
+    {
+        if !self.door.is_over() {
+            self.tell("takes no more connections", error);
+        }
+    }
+
     /// Waits a little behind this error. The first is told, and no other: nobody may read it.
     fn wait(&mut self, error: &io::Error)
         ensures { (self.new.left ≡ self.old.left) × (self.new.door ≡ self.old.door) }
@@ -188,8 +197,8 @@ where
         × (L.history new.door ≡ L.history old.door
         ++ given_back (L.In.given halves.0.end.stream) (L.Out.taken halves.1.end.stream) ∷ []) };
 
-    /// Waits for the next connection. None if as many as were asked for are served, or if one couldn't be taken,
-    /// which is told on standard error.
+    /// Waits for the next connection. None if as many as were asked for are served, if the server has ended, or if one
+    /// couldn't be taken, which is told on standard error.
     fn next_conn(&mut self) -> Option<(Reader<'a, L, R>, Writer<'a, L, R>)> {
         let left = self.left.checked_sub(1)?;
         let accepted = self.accept();
@@ -197,7 +206,7 @@ where
         match accepted {
             Ok(halves) => Some(halves),
             Err(error) => {
-                self.tell("takes no more connections", &error);
+                self.tell_last(&error);
                 None
             }
         }

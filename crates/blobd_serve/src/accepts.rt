@@ -13,6 +13,9 @@ pub trait Timed {
 
     /// The same of a write.
     fn limit_writes(&self, longest: Duration) -> io::Result<()>;
+
+    /// Whether its server has ended, so that nobody is waited for.
+    fn is_over(&self) -> bool;
 }
 
 /// The connections of one worker, one after the other. A worker has no other way to get one, and gives each back.
@@ -36,6 +39,9 @@ pub trait Accepts {
             ≡ record { bytes = []; ended = false }) × (Self.Out.taken ends.1 ≡ [])) }
         ensures told { IfOk result (λ ends. history self.new ≡ history self.old ++ made ∷ []) }
         ensures none { OnErr result (history self.new ≡ history self.old) };
+
+    /// Whether the server has ended, so that no connection comes any more.
+    fn is_over(&self) -> bool;
 
     /// Takes a connection back that was served: both ends are as its conversation left them.
     fn take_back(&mut self, source: Self::In, sink: Self::Out)

@@ -1,7 +1,7 @@
 //! Lines of the log that say what the service holds: at most one a minute, and none while nothing changes.
 use crate::log_lines::{Log, LogLines};
 use crate::time_of_day::time_now;
-use blobd_shared::WholeHolding;
+use blobd_shared::{ByteCount, WholeHolding};
 use std::alloc::{AllocError, Global};
 use std::cell::Cell;
 use std::rt::Clock;
@@ -34,6 +34,14 @@ fn are_same(one: Counts, two: Counts) -> bool {
         && one.stored == two.stored
         && one.uploads == two.uploads
         && one.received == two.received
+}
+
+/// How many bytes more the service may hold now, bodies that arrive among them; `None` if it has no limit.
+fn room_left(service: &Service) -> Option<u64> {
+    match service.room() {
+        Ok(Some(room)) => Some(room.left()),
+        Ok(None) | Err(_) => None,
+    }
 }
 
 impl<'a, R: Clock + Wait> Holdings<'a, R> {
@@ -85,7 +93,7 @@ impl<'a, R: Clock + Wait> Holdings<'a, R> {
             ..
         } = last;
         if !are_same(before, counts) {
-            match self.line(counts) {
+            match self.line(counts, room_left(service)) {
                 Ok(text) => lines.send(self.rt, text),
                 Err(_) => lines.lose(),
             }
@@ -93,9 +101,16 @@ impl<'a, R: Clock + Wait> Holdings<'a, R> {
         Last { lines, at, counts }
     }
 
-    /// The line that says so now. An error is out of memory.
-    fn line(&self, counts: Counts) -> Result<String, AllocError> {
+    /// The line that says so now, with the room that is left if there is a limit. An error is out of memory.
+    fn line(&self, counts: Counts, left: Option<u64>) -> Result<String, AllocError> {
         let time = time_now(self.rt, self.alloc)?;
-        format!(in self.alloc; "{time} holds {}", WholeHolding(counts))
+        let holding = WholeHolding(counts);
+        match left {
+            Some(left) => format!(in self.alloc;
+                "{time} holds {holding}, {} left",
+                ByteCount(left)
+            ),
+            None => format!(in self.alloc; "{time} holds {holding}"),
+        }
     }
 }

@@ -13,6 +13,7 @@ use crate::closing::{Closer, Closing};
 use crate::kept::serve_kept_over;
 use crate::request_log::RequestLog;
 use crate::serve::serve_over;
+use crate::shutting::{Over, Shutter, Shutting};
 use crate::workers::{SinceStart, SystemSecrets};
 use blobd_shared::{ConnHistory, FAULT, Inlet, Outlet, print_line};
 use http_wire::{ByteSink, ByteSource, Transcript};
@@ -35,17 +36,20 @@ type Shared = Arc<Option<TcpStream>, Global>;
 #[derive(Drop)]
 pub(crate) struct Socket {
     shared: Shared,
+    /// Whether its server has ended.
+    over: Over,
     /// For contracts alone.
     moved: Transcript,
 }
 
 impl Socket {
     /// The end of a stream over which nothing has moved so far.
-    fn new(shared: Shared) -> Socket
+    fn new(shared: Shared, over: Over) -> Socket
         ensures { result.moved ≡ record { bytes = []; ended = false } }
     {
         Socket {
             shared,
+            over,
             moved: Transcript::none(),
         }
     }
@@ -94,6 +98,10 @@ impl Timed for Socket {
     fn limit_writes(&self, longest: Duration) -> io::Result<()> {
         self.stream()?.set_write_timeout(Some(longest))
     }
+
+    fn is_over(&self) -> bool {
+        self.over.is_over()
+    }
 }
 
 /// A listener, as one worker has it.
@@ -106,6 +114,8 @@ pub(crate) struct Door<'a, R> {
     spare: Option<Shared>,
     /// Where a connection is closed once it is given back.
     closing: Closing,
+    /// Whether the server has ended.
+    over: Over,
     /// For contracts alone.
     history: ConnHistory<Socket, Socket>,
 }
@@ -117,6 +127,7 @@ impl<'a, R> Door<'a, R> {
         alloc: Global,
         listener: &'a TcpListener,
         closer: &Option<Closer>,
+        over: &Over,
     ) -> Result<Door<'a, R>, AllocError>
         ensures { IfOk result (λ door. door.history ≡ []) }
     {
@@ -126,6 +137,7 @@ impl<'a, R> Door<'a, R> {
             listener,
             spare: Some(Arc::new(alloc, None)?),
             closing: Closing::new(closer)?,
+            over: over.share()?,
             history: ConnHistory::none(),
         })
     }
@@ -154,15 +166,20 @@ impl<'a, R: Wait + Sync> Accepts for Door<'a, R> {
     ghost history = { λ d. d.history };
 
     fn accept(&mut self) -> io::Result<(Socket, Socket)> {
+        let (read, write) = (self.over.share()?, self.over.share()?);
         let (stream, _) = self.listener.accept()?;
         // What is written leaves as it is written: a head and a small body are one write. A peer that has gone already
         // can make this fail; the reads and writes will tell.
         let _ = stream.set_nodelay(true);
         let shared = self.shared(stream)?;
-        let source = Socket::new(Arc::try_clone(&shared)?);
-        let sink = Socket::new(shared);
+        let source = Socket::new(Arc::try_clone(&shared)?, read);
+        let sink = Socket::new(shared, write);
         self.history.note_made();
         Ok((source, sink))
+    }
+
+    fn is_over(&self) -> bool {
+        self.over.is_over()
     }
 
     /// Closes the connection.
@@ -186,20 +203,24 @@ fn doors<'a, R>(
     listener: &'a TcpListener,
     count: usize,
     closer: &Option<Closer>,
+    over: &Over,
 ) -> Result<Vec<Door<'a, R>>, AllocError>
     ensures number { IfOk result (λ doors. vec_len doors ≡ count) }
     ensures new { IfOk result (λ doors. All (λ door. door.history ≡ []) doors.items) }
 {
     let mut doors = Vec::new(alloc);
     for number in 0..count {
-        doors.push(Door::new(rt, alloc, listener, closer)?)?;
+        doors.push(Door::new(rt, alloc, listener, closer, over)?)?;
     }
     Ok(doors)
 }
 
 /// A listener that is there to be served.
+#[derive(Drop)]
 struct Opened<'a, R> {
     addr: SocketAddr,
+    /// What all doors see of whether the server has ended.
+    over: Over,
     closer: Option<Closer>,
     doors: Vec<Door<'a, R>>,
 }
@@ -218,12 +239,16 @@ where
     let Ok(addr) = listener.local_addr() else {
         return Err("fault: listen");
     };
+    let Ok(over) = Over::new(rt.alloc()) else {
+        return Err("fault: workers");
+    };
     let closer = Closer::start(rt, rt.alloc());
-    let Ok(doors) = doors(rt, rt.alloc(), listener, count, &closer) else {
+    let Ok(doors) = doors(rt, rt.alloc(), listener, count, &closer, &over) else {
         return Err("fault: workers");
     };
     Ok(Opened {
         addr,
+        over,
         closer,
         doors,
     })
@@ -261,6 +286,7 @@ where
         addr,
         closer,
         doors,
+        ..
     } = match open_doors(rt, listener, terms.workers) {
         Ok(opened) => opened,
         Err(fault) => return print_line(out, fault, FAULT),
@@ -273,8 +299,9 @@ where
 }
 
 /// Serves a listener as [`run_serve`] does, from this service on. Each request that changes it is kept before its
-/// answer is written. If that fails, nobody hears that answer or a later one, and `fault: data` is printed in place of
-/// `served` once the workers have ended, which each does behind the first request that comes to it.
+/// answer is written. If that fails, nobody hears that answer or a later one, the listener is shut, each connection is
+/// ended, and `fault: data` is printed in place of `served` once the workers have ended, which takes a second or so.
+/// `fault: listen` is also printed if the listener can't be shared with what shuts it.
 pub fn run_serve_kept<'a, R, K, W>(
     rt: &'a R,
     listener: &'a TcpListener,
@@ -304,11 +331,25 @@ where
 {
     let Opened {
         addr,
+        over,
         closer,
         doors,
     } = match open_doors(rt, listener, terms.workers) {
         Ok(opened) => opened,
         Err(fault) => return print_line(out, fault, FAULT),
+    };
+    let Ok(shutter) = Shutter::new(listener, over) else {
+        return print_line(out, "fault: listen", FAULT);
+    };
+    let KeptService {
+        service,
+        keeping,
+        since,
+    } = kept;
+    let kept = KeptService {
+        service,
+        keeping: Shutting { keeping, shutter },
+        since,
     };
     let (status, back) = serve_kept_over(rt, addr, doors, terms, kept, out);
     // The thread that closes ends once nobody can hand it another connection.

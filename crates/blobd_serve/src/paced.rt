@@ -98,9 +98,9 @@ impl Pace {
 /// How many microseconds a second has.
 const SECOND: u64 = 1_000_000;
 
-/// For how many seconds a call waits at most. Where the system has room for a few more bytes it doesn't end a write
-/// that waits for much room, and the next write takes them.
-const LONGEST_CALL: u64 = 15;
+/// For how many seconds a call waits at most: so soon it is seen that the server has ended. And where the system has
+/// room for a few more bytes it doesn't end a write that waits for much room, and the next write takes them.
+const LONGEST_CALL: u64 = 1;
 
 /// Whether a connection was written to since it was read from: what is read next belongs to another request. Its two
 /// halves share it, and all connections of a worker have the same, so that none of them takes memory.
@@ -232,7 +232,7 @@ impl<'a, R: Clock> Watch<'a, R> {
     }
 }
 
-/// What a half answers once its client was too slow.
+/// What a half answers once its client was too slow, or the server has ended.
 fn too_slow() -> io::Error
     ensures { error_kind result ≢ ErrorKind.Interrupted }
 {
@@ -276,7 +276,7 @@ impl<'a, S, R> Half<'a, S, R> {
 }
 
 /// Reads, and again for as long as the client may take its time. What it gives is what the stream gave. An error: the
-/// client is too slow, or the system's.
+/// client is too slow, the server has ended, or the system's.
 fn read_in_time<S: Inlet + Timed, R: Clock>(
     stream: &mut S,
     watch: &mut Watch<'_, R>,
@@ -290,7 +290,7 @@ fn read_in_time<S: Inlet + Timed, R: Clock>(
         let Some(pace) = watch.pace else {
             break;
         };
-        if watch.allow_read(stream, pace).is_err() {
+        if stream.is_over() || watch.allow_read(stream, pace).is_err() {
             break;
         }
         let begun = watch.now();
@@ -303,7 +303,7 @@ fn read_in_time<S: Inlet + Timed, R: Clock>(
 }
 
 /// Writes, and again for as long as the client may take its time. What it takes is what the stream took. An error: the
-/// client is too slow, or the system's.
+/// client is too slow, the server has ended, or the system's.
 fn write_in_time<S: Outlet + Timed, R: Clock>(
     stream: &mut S,
     watch: &mut Watch<'_, R>,
@@ -317,7 +317,7 @@ fn write_in_time<S: Outlet + Timed, R: Clock>(
         let Some(pace) = watch.pace else {
             break;
         };
-        if watch.allow_write(stream, pace).is_err() {
+        if stream.is_over() || watch.allow_write(stream, pace).is_err() {
             break;
         }
         let begun = watch.now();

@@ -17,12 +17,18 @@ use upload_wire::{Observer, RequestLine};
 /// What is shown of a head that can't be read, and of one for which there is no memory.
 const NO_HEAD: &str = "-";
 
-/// The status of what has no room.
-const UNAVAILABLE: u16 = 503;
-
-/// What is told then.
-const FULL: &str =
-    "blobd: requests are refused (503) for want of room: in memory (BLOBD_MEMORY), or on the disk of its data directory";
+/// What is told of a reply that refuses a request for want of room, by its status; nothing of another one.
+fn want_of_room(status: u16) -> Option<&'static str> {
+    match status {
+        429 => Some(
+            "blobd: uploads are refused (429) for want of room: its table of open ones is full; one goes as it is closed or cancelled, or behind an hour without a request",
+        ),
+        503 => Some(
+            "blobd: requests are refused (503) for want of room: in memory (BLOBD_MEMORY), or on the disk of its data directory, if it has one",
+        ),
+        _ => None,
+    }
+}
 
 /// The log of one worker. No request waits for its line to be written.
 #[derive(Drop)]
@@ -61,14 +67,14 @@ impl<'a, R: Clock + Eprint + Wait> RequestLog<'a, R> {
     }
 
     /// Tells that there is no room. If there is a log, it is a line of that: no worker waits for who reads it.
-    fn tell_full(&mut self) {
+    fn tell_full(&mut self, text: &str) {
         let rt = self.rt;
         let Some(lines) = &mut self.lines else {
             // Nothing is promised of standard error.
-            let _ = eprintln!(rt; "{FULL}");
+            let _ = eprintln!(rt; "{text}");
             return;
         };
-        match format!(in self.alloc; "{FULL}") {
+        match format!(in self.alloc; "{text}") {
             Ok(text) => lines.send(rt, text),
             Err(_) => lines.lose(),
         }
@@ -89,8 +95,10 @@ impl<'a, R: Clock + Eprint + Wait> Observer for RequestLog<'a, R> {
     }
 
     fn replied(&mut self, status: u16, size: u64) {
-        if status == UNAVAILABLE && self.fullness.tells(self.rt) {
-            self.tell_full();
+        if let Some(text) = want_of_room(status) {
+            if self.fullness.tells(self.rt) {
+                self.tell_full(text);
+            }
         }
         if let Some(lines) = &mut self.lines {
             let millis = millis_since(self.rt, self.heard);
