@@ -32,6 +32,7 @@ WRONG = {
     401: "it takes no request without a login, or not this one (LOGIN=FILE, with USER:PASSWORD in the file)",
     503: "it can't serve now, or it is a reverse proxy with no server behind it",
 }
+NO_REGISTRY = "it isn't a registry"
 NOBODY = "nobody listens there: start the registry, or name its port"
 DROPPED = f"no connection within {PATIENCE} s: its machine is off, or a firewall drops what is sent there"
 SILENT = f"it takes a connection, and says nothing for {PATIENCE} s: it hangs, or is no registry"
@@ -114,11 +115,22 @@ def why_no_reply(registry, trusted):
     return NO_HTTP.format("TLS: leave out http://" if trusted is None else f"no TLS: REGISTRY=http://{registry}")
 
 
-def status_of(address):
-    """What the registry says to its base path, through the adapter."""
+def status_of(address, method, path):
+    """What the registry says to a request, through the adapter."""
     asked = http.client.HTTPConnection(*servers.place(address), timeout=servers.PATIENCE)
-    asked.request("GET", "/v2/")
+    asked.request(method, path)
     return asked.getresponse().status
+
+
+def why_not(address):
+    """Why no blob can be pushed through the adapter at this address, or None if nothing tells."""
+    status = status_of(address, "GET", "/v2/")
+    if status != 200:
+        return f"answers {status}: {WRONG.get(status, NO_REGISTRY)}"
+    # what answers 200 to anything has a blob that nobody has
+    if status_of(address, "HEAD", f"/v2/none/blobs/sha256:{'0' * 64}") == 200:
+        return f"has a blob of a digest that is none's: {NO_REGISTRY}"
+    return None
 
 
 def text_of(variable, path):
@@ -156,10 +168,9 @@ def serve(told, folder):
         return 1
     with servers.Adapter(folder, registry, certificates, login, told.at) as adapter:
         with told_wait(registry):
-            status = status_of(told.at)
-        if status != 200:
-            why = WRONG.get(status, "it isn't a registry")
-            print(f"{registry} answers {status}: {why}", file=sys.stderr)
+            why = why_not(told.at)
+        if why:
+            print(f"{registry} {why}", file=sys.stderr)
             return 1
         print(f"It pushes to {told.registry}, until you interrupt it (Ctrl-C). In another shell:\n")
         print(f"  blobd push {told.at} NAME FILE", flush=True)

@@ -5,7 +5,7 @@
 
 It tries what a push prints, on a terminal too, and what it leaves in the server; files that are there already; sizes of
 chunks, and how much is moved at once; an IPv6 address; servers that start again, that stay away, that can't serve, that
-are silent, or whose replies are strange; servers with a data directory that are killed again and again; signals; a
+are full or silent, or whose replies are strange; servers with a data directory that are killed again and again; signals; a
 close whose reply is lost; more chunks than one connection takes; several pushes at once.
 """
 import collections
@@ -25,6 +25,7 @@ from harness.running import (
 )
 from harness.suite import OPTIONS, case, check, equal, main, skip
 from harness.wire import PATIENCE, address_of, sha256
+from serve_data import SIZES, fill, has_all
 import servers
 
 CUT_PUSHES = 50
@@ -241,14 +242,19 @@ def head_of(length, fields=b""):
 
 
 PLACE = b"Location: /v2/lib/a/blobs/uploads/00000001-0000-8000-8000-000000000000\r\n"
+STATEFUL = PLACE.replace(b"\r\n", b"?_state=x\r\n")
 LOCATION_ELSEWHERE = b"Location: https://h/v2/lib/a/blobs/uploads/1?_state=x\r\n"
+THROUGH_THE_ADAPTER = b"via: 1.1 blobd-adapter\r\n"
 CODED = b'{"errors":[{"code":"DENIED"}]}'
+TOLD = b'{"errors":[{"code":"DENIED","message":"lib is full"}]}'
 # a server that loses the upload
 LOSES = {
     "HEAD": reply_of("404 Not Found"),
     "POST": reply_of("202 Accepted", fields=PLACE),
     "PATCH": reply_of("404 Not Found", b'{"errors":[{"code":"BLOB_UPLOAD_UNKNOWN"}]}'),
 }
+# one that wants a state with each request to an upload, as docker-registry
+WANTS_STATE = LOSES | {"POST": reply_of("202 Accepted", fields=STATEFUL)}
 # What is said of a reply on standard error.
 HTTPS = "is this https? A push speaks plain HTTP"
 ADAPTER = "`make adapter REGISTRY=http://host:port`"
@@ -262,7 +268,13 @@ ELSEWHERE = (
     "or, if that is https, through `make adapter REGISTRY=host:port`"
 )
 NO_REGISTRY = "it takes no uploads into this repository: is it a registry?"
-LOST = f"if it is docker-registry, push through {ADAPTER}; else it lost the upload: push again"
+NONE = "it is no registry: one answers 202 to the opening of an upload, or with an error code"
+LOST = "it lost the upload: push again"
+STATE = f"it is docker-registry, as by the state in its Location: push through {ADAPTER}"
+OTHER_LOGIN = (
+    "the registry behind the adapter wants a login, or another one: "
+    "start `make adapter` with the LOGIN=FILE of one that it knows"
+)
 NO_HTTP = "the reply isn't HTTP: is this https? (tried 7 times)"
 TLS = f"the reply is TLS: {HTTPS} (tried 7 times)"
 CLOSED = "the server closed the connection before it had replied: is this https? (tried 7 times)"
@@ -288,15 +300,27 @@ LONG = b"x" * 1000
 STRANGE = [
     ("a refusal with a code", reply_of("403 Forbidden", CODED), "403 DENIED", None),
     ("a refusal without a code", reply_of("403 Forbidden"), "403 -", None),
+    ("a refusal with its reason", reply_of("403 Forbidden", TOLD), "403 DENIED", "the server says: lib is full"),
     ("a code of two lines", reply_of("403 Forbidden", b'{"errors":[{"code":"A\\nB"}]}'), "403 -", None),
     ("an empty code", reply_of("403 Forbidden", b'{"errors":[{"code":""}]}'), "403 -", None),
     ("a login", reply_of("401 Unauthorized"), "401 -", LOGIN),
+    ("a login of the adapter's", reply_of("401 Unauthorized", CODED, THROUGH_THE_ADAPTER), "401 DENIED", OTHER_LOGIN),
     ("a redirect", reply_of("303 See Other", fields=b"Location: https://h/\r\n"), "303 -", ELSEWHERE),
     ("the last redirect", reply_of("399 None"), "399 -", ELSEWHERE),
     ("a request that TLS was wanted for", reply_of("400 Bad Request"), "400 -", HTTPS),
     ("a refused request", reply_of("400 Bad Request", CODED), "400 DENIED", None),
     ("a server that is no registry", reply_of("404 Not Found"), "404 -", NO_REGISTRY),
+    ("a page for all", {"HEAD": head_of(9), "POST": reply_of("200 OK", b"<html></html>")}, "200 -", NONE),
+    ("the last of its kind", reply_of("299 None"), "299 -", NONE),
+    ("a server without POST", reply_of("501 Unsupported method ('POST')", b"<html></html>"), "501 -", NONE),
+    ("a page without POST", reply_of("405 Not Allowed", b"<html></html>"), "405 -", NONE),
+    ("a registry that is only read", reply_of("405 Method Not Allowed", CODED), "405 DENIED", None),
+    ("a proxy without its server", reply_of("502 Bad Gateway"), "502 -", None),
+    ("a chunk that is answered by a page", LOSES | {"PATCH": reply_of("200 OK")}, "200 -", None),
     ("a server that loses the upload", LOSES, "404 BLOB_UPLOAD_UNKNOWN", LOST),
+    ("docker-registry", WANTS_STATE, "404 BLOB_UPLOAD_UNKNOWN", STATE),
+    ("docker-registry, later", WANTS_STATE | {"PATCH": reply_of("400 Bad Request", CODED)}, "400 DENIED", STATE),
+    ("a login within an upload", WANTS_STATE | {"PATCH": reply_of("401 Unauthorized")}, "401 -", LOGIN),
     ("a server that ends within the upload", LOSES | {"PATCH": b"", "GET": b""}, "out of tries", CUT),
     ("a 202 without a place", reply_of("202 Accepted"), "bad server", OTHER),
     ("a place of another registry", reply_of("202 Accepted", fields=LOCATION_ELSEWHERE), "bad server", OTHER),
@@ -327,6 +351,35 @@ def strange_servers(folder):
         for (name, _, line, why), server, ended in zip(STRANGE, servers, pushes):
             wanted = given_up(server.addr, why, line) if why else (f"refused: {line}\n", 1, "")
             equal(name, ended.result(), wanted)
+
+
+def finds_no_room(name, server, *words):
+    """Checks that a push to a full server is given up, and says that there is no room."""
+    line, status, told = push(server.addr, "lib/b", *words)
+    equal(f"a push {name}", (line, status), ("refused: out of tries\n", 1))
+    why = re.sub(r"\(tried [67] times\)", "(tried 7 times)", told)
+    equal(f"why a push {name} was given up", why, given_up(server.addr, UNAVAILABLE)[2])
+
+
+@case()
+def a_full_server(folder):
+    """A server that has no more room gives a push up, which says so: behind some of its chunks, at the first, and at its
+    opening. What was stored is there, and with more memory the same push goes well."""
+    stored, chance, data = [], random.Random(9), os.path.join(folder, "data")
+    content = chance.randbytes(20 * MIB)
+    path, options = written(folder, content), {"stderr": subprocess.DEVNULL}
+    with Server(env={"BLOBD_DATA": data, "BLOBD_MEMORY": "8M"}, **options) as server:
+        finds_no_room("that is larger than what is left", server, path, "1M")
+        finds_no_room("in one chunk", server, path)
+        with server.client() as client:
+            equal("blobs until there is no room for a short one", fill(client, stored, chance, SIZES[1:]), [503] * 4)
+        check("there were some", stored)
+        finds_no_room("to a server without any room", server, path)
+        equal("what it left", pull(server, "lib/b", sha256(content)), 404)
+        has_all("what was stored", server, stored)
+    with Server(env={"BLOBD_DATA": data, "BLOBD_MEMORY": "64M"}, **options) as server:
+        equal("with more memory", push(server.addr, "lib/b", path), pushed(content))
+        has_all("what was stored, behind a start", server, stored)
 
 
 @case()

@@ -62,6 +62,20 @@ def whom_the_adapter_trusts(folder):
 
 
 @case(*PROXY)
+def a_push_says_whose_login_is_wrong(folder):
+    """The adapter's, if the registry doesn't take it or there is none; and that a push has none, without the adapter."""
+    path = written(folder, CONTENT)
+    with Site() as site:
+        to = f"127.0.0.1:{servers.place(site.haproxy.tls)[1]}"
+        for login in (None, "alice:wrong"):
+            with servers.Adapter(folder, to, site.certificates, login) as one:
+                line, status, told = push(one.address, "lib/a", path)
+                equal(f"a push with the login {login}", (line.split()[:2], status), (["refused:", "401"], 1))
+                wanted = f"blobd: can't push to {one.address}: the registry behind the adapter wants a login, or another one"
+                check(f"what is said of the login {login}", told.startswith(wanted), told)
+
+
+@case(*PROXY)
 def the_newcomers_adapter(folder):
     """deploy/adapter.py says how to push, and what is wrong if it can't."""
     login, bad, path = (os.path.join(folder, name) for name in ("login", "bad", "file"))
@@ -114,6 +128,10 @@ def the_adapter_names_the_cause(folder):
     with Scripted([b"SSH-2.0-none\r\n"]) as other:
         told = told_of(f"http://{other.addr}")
         check("no HTTP", "it sends no reply of HTTP" in told, told)
+    for status, what in ((404, "answers 404: "), (200, "has a blob of a digest that is none's: ")):
+        with Scripted([b"HTTP/1.1 %d None\r\nContent-Length: 0\r\nConnection: close\r\n\r\n" % status]) as other:
+            told = told_of(f"http://{other.addr}")
+            equal(f"what answers {status} to anything", told, f"{other.addr} {what}it isn't a registry\n")
 
 
 @case(*PROXY)

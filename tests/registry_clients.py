@@ -211,8 +211,9 @@ def a_push_through_the_adapter(folder):
     path = written(folder, content)
     with servers.DockerRegistry(folder) as registry, servers.Adapter(folder, registry.address) as adapter:
         line, status, told = push(registry.address, "lib/straight", path, MIB)
-        advice = f"blobd: can't push to {registry.address}: if it is docker-registry, push through `make adapter "
+        advice = f"blobd: can't push to {registry.address}: it is docker-registry, as by the state in its Location: push "
         check("a push without it says first to take it", status == 1 and told.startswith(advice), (line, status, told))
+        check("a push without it names it", "`make adapter" in told, told)
         for name, chunk in (("lib/adapted", MIB), ("lib/whole", 8 * MIB)):
             ran = push(adapter.address, name, path, chunk)
             equal(f"blobd push through the adapter in chunks of {chunk}", ran, pushed(content))

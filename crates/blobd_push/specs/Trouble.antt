@@ -2,12 +2,16 @@
 use Rattle.std.specs.Prelude.{ℕ, ◌+◌, ◌-◌, ◌^◌, min, ◌==◌, ◌&&◌, ◌||◌, nat_eq, nat_le, Bool, false, true, List}
 use Rattle.std.specs.Prelude.{◌∷◌, codes, Option, Some, None, option_map, is_some, if◌then◌else◌}
 use Rattle.std.specs.List.{starts_with}
+use Rattle.std.specs.Option.{option_or}
 use Rattle.upload_client.specs.declared.heard.Heard.{Heard}
 use Rattle.upload_push.specs.declared.pusher.Why.{Why}
 use Rattle.upload_push.specs.declared.pusher.Why.TheVariants.{Refused, BadServer, OutOfTries}
 use Rattle.blobd_push.specs.declared.trouble.Advice.{Advice}
-use Rattle.blobd_push.specs.declared.trouble.Advice.TheVariants.{IsItHttps, NoLogin, PushAgain, IsItARegistry, Adapter, GoThere}
+use Rattle.blobd_push.specs.declared.trouble.Advice.TheVariants.{IsItHttps, NoLogin, OtherLogin, PushAgain, State, IsItARegistry}
+use Rattle.blobd_push.specs.declared.trouble.Advice.TheVariants.{NoRegistry, Adapter, GoThere}
 use Rattle.blobd_push.specs.declared.trouble.Course.{Course}
+use Rattle.blobd_push.specs.declared.trouble.Kind.{Kind}
+use Rattle.blobd_push.specs.declared.trouble.Kind.TheVariants.{Stateful}
 use Rattle.blobd_push.specs.declared.trouble.Reason.{Reason}
 use Rattle.blobd_push.specs.declared.trouble.Reason.TheVariants.{Advised, Lost}
 use Rattle.blobd_push.specs.declared.trouble.Trouble.{Trouble}
@@ -80,15 +84,38 @@ words_of Misplaced = codes "the server answers 416: does another client write in
 abbrev pub status_trouble : ℕ → Option Trouble
 status_trouble status = if status == 503 then Some Unavailable else if status == 416 then Some Misplaced else None
 
--- What to do about a reply that ended a push: by its status, whether it had an error code, and whether an upload was
--- opened before.
-abbrev pub advice_on : ℕ → Bool → Bool → Option Advice
-advice_on status coded opened =
+-- what to do about a reply to a request of an upload: a server that wants a state finds none without it
+abbrev pub advice_within : ℕ → Kind → Option Advice
+advice_within status Stateful = if status == 400 || status == 404 then Some State else None
+advice_within status kind = if status == 404 then Some PushAgain else None
+
+-- what to do about a reply to the opening of an upload: a registry that takes none says why by an error code
+abbrev pub advice_at_opening : ℕ → Bool → Option Advice
+advice_at_opening status coded =
+    if status == 404 then Some IsItARegistry
+    else if coded then None
+    else if nat_le 200 status && nat_le status 299 || status == 405 || status == 501 then Some NoRegistry
+    else None
+
+-- who is told to have another login: who runs the adapter, or who pushes
+abbrev pub login_advice : Kind → Advice
+login_advice Kind.Adapter = OtherLogin
+login_advice kind = NoLogin
+
+-- what to do about a reply of this status, whatever was asked
+abbrev pub advice_anywhere : ℕ → Bool → Kind → Option Advice
+advice_anywhere status coded kind =
     if nat_le 300 status && nat_le status 399 then Some GoThere
     else if status == 400 then (if coded then None else Some IsItHttps)
-    else if status == 401 then Some NoLogin
-    else if status == 404 then (if opened then Some PushAgain else Some IsItARegistry)
+    else if status == 401 then Some (login_advice kind)
     else None
+
+-- What to do about a reply that ended a push: by its status, whether it had an error code, whether an upload was opened
+-- before, and the server's kind.
+abbrev pub advice_on : ℕ → Bool → Bool → Kind → Option Advice
+advice_on status coded false kind =
+    option_or (advice_at_opening status coded) (advice_anywhere status coded kind)
+advice_on status coded true kind = option_or (advice_within status kind) (advice_anywhere status coded kind)
 
 -- the words for what to do
 abbrev pub words_of_advice : Advice → List ℕ
@@ -96,10 +123,16 @@ words_of_advice IsItHttps = codes "is this https? A push speaks plain HTTP"
 words_of_advice NoLogin =
     codes
     "it wants a login, and a push has none: push to the reverse proxy's local address, or through `make adapter REGISTRY=http://host:port LOGIN=FILE`"
-words_of_advice PushAgain =
+words_of_advice OtherLogin =
     codes
-    "if it is docker-registry, push through `make adapter REGISTRY=http://host:port`; else it lost the upload: push again"
+    "the registry behind the adapter wants a login, or another one: start `make adapter` with the LOGIN=FILE of one that it knows"
+words_of_advice PushAgain = codes "it lost the upload: push again"
+words_of_advice State =
+    codes
+    "it is docker-registry, as by the state in its Location: push through `make adapter REGISTRY=http://host:port`"
 words_of_advice IsItARegistry = codes "it takes no uploads into this repository: is it a registry?"
+words_of_advice NoRegistry =
+    codes "it is no registry: one answers 202 to the opening of an upload, or with an error code"
 words_of_advice Adapter =
     codes
     "it is another kind of server, as by the form of its Location: push through `make adapter REGISTRY=http://host:port`"
@@ -116,7 +149,8 @@ last_trouble (System number) true = if number == 32 || number == 104 then Cut el
 last_trouble trouble true = trouble
 
 -- what there is to say of a push that was given up, beside its line
-abbrev pub reason_of : Why → Course → Trouble → Option Reason
-reason_of (Refused status code) course trouble = option_map Advised (advice_on status (is_some code) course.opened)
-reason_of BadServer course trouble = Some (Advised Adapter)
-reason_of OutOfTries course trouble = Some (Lost (last_trouble trouble course.opened) course.losses)
+abbrev pub reason_of : Why → Course → Kind → Trouble → Option Reason
+reason_of (Refused status code) course kind trouble =
+    option_map Advised (advice_on status (is_some code) course.opened kind)
+reason_of BadServer course kind trouble = Some (Advised Adapter)
+reason_of OutOfTries course kind trouble = Some (Lost (last_trouble trouble course.opened) course.losses)

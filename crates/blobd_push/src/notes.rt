@@ -1,6 +1,6 @@
 //! What is noted of a request of a push, for standard error.
 use crate::bar::millis_of;
-use crate::trouble::{Trouble, error_trouble, first_trouble, is_unavailable, trouble_in};
+use crate::trouble::{Kind, Trouble, error_trouble, first_trouble, is_unavailable, trouble_in};
 use std::cell::Cell;
 use std::rt::Clock;
 use std::time::Instant;
@@ -12,7 +12,7 @@ const LONGEST: usize = 240;
 /// Behind how long a server that can't serve is told, in milliseconds.
 const TOLD_MILLIS: u64 = 5_000;
 
-/// What a server says of why it can't serve, as far as it is kept.
+/// What a server says of why it refuses or can't serve, as far as it is kept.
 #[derive(Clone, Copy)]
 pub(crate) struct Message([u8; LONGEST]);
 
@@ -24,6 +24,23 @@ fn behind<'t>(bytes: &'t [u8], mark: &[u8]) -> Option<&'t [u8]> {
         }
     }
     None
+}
+
+/// What is known of a server's kind once these bytes of it were read. Its adapter marks each reply; a state stands in the
+/// Location of a reply that tells where an upload is.
+fn kind_after(before: Kind, read: &[u8]) -> Kind {
+    if behind(read, b"blobd-adapter").is_some() {
+        Kind::Adapter
+    } else if read.starts_with(b"HTTP/1.1 202 ") && behind(read, b"_state=").is_some() {
+        Kind::Stateful
+    } else {
+        before
+    }
+}
+
+/// Whether bytes begin as a reply that refuses what was asked (RFC 9110, sections 15.5 and 15.6).
+fn is_refusal(bytes: &[u8]) -> bool {
+    bytes.starts_with(b"HTTP/1.1 4") || bytes.starts_with(b"HTTP/1.1 5")
 }
 
 /// Whether a byte may be printed, and doesn't end a message.
@@ -71,8 +88,12 @@ pub(crate) struct Notes {
     begun: Cell<Option<Instant>>,
     /// What keeps it from being heard.
     trouble: Cell<Trouble>,
+    /// Whether the reply to it refuses it.
+    refuses: Cell<bool>,
     /// What the server says of that.
     message: Cell<Message>,
+    /// What all replies so far tell of the server's kind.
+    kind: Cell<Kind>,
 }
 
 impl Notes {
@@ -81,13 +102,16 @@ impl Notes {
         Notes {
             begun: Cell::new(None),
             trouble: Cell::new(Trouble::NoReply),
+            refuses: Cell::new(false),
             message: Cell::new(Message::none()),
+            kind: Cell::new(Kind::Untold),
         }
     }
 
     /// Nothing has gone wrong with the next request yet.
     pub(crate) fn clear(&self) {
         self.trouble.set(Trouble::NoReply);
+        self.refuses.set(false);
         self.message.set(Message::none());
     }
 
@@ -118,6 +142,10 @@ impl Notes {
         self.message.get()
     }
 
+    pub(crate) fn kind(&self) -> Kind {
+        self.kind.get()
+    }
+
     /// Notes a trouble in the place of another.
     pub(crate) fn set(&self, new: Trouble) {
         self.trouble.set(new);
@@ -136,6 +164,7 @@ impl Notes {
 
     /// Notes what is wrong with bytes that were read, the first of a connection or not.
     pub(crate) fn note_read(&self, first: bool, read: &[u8]) {
+        self.kind.set(kind_after(self.kind(), read));
         if read.is_empty() {
             self.note(Trouble::Closed);
         } else if is_unavailable(read) {
@@ -143,7 +172,8 @@ impl Notes {
         } else if first && let Some(wrong) = trouble_in(read) {
             self.note(wrong);
         }
-        if self.trouble() == Trouble::Unavailable && self.message().is_empty() {
+        self.refuses.set(self.refuses.get() || is_refusal(read));
+        if self.refuses.get() && self.message().is_empty() {
             self.message.set(Message::within(read));
         }
     }

@@ -200,7 +200,7 @@ fn refuse_name<R: Eprint, W: Write>(rt: &R, out: &mut W) -> u8
 /// Tells on standard error why a push was given up, if its line says too little. Nothing is promised of it.
 fn tell_why<R: Eprint>(rt: &R, host: &str, why: &Why, course: Course, notes: &Notes) {
     let message = notes.message();
-    let _ = match reason_of(why, course, notes.trouble()) {
+    let _ = match reason_of(why, course, notes.kind(), notes.trouble()) {
         Some(Reason::Lost(Trouble::Unavailable, count)) if !message.is_empty() => {
             let tries = Quantity(count, "time");
             eprintln!(rt;
@@ -208,6 +208,9 @@ fn tell_why<R: Eprint>(rt: &R, host: &str, why: &Why, course: Course, notes: &No
             )
         }
         Some(reason) => eprintln!(rt; "blobd: can't push to {host}: {reason}"),
+        None if !message.is_empty() => {
+            eprintln!(rt; "blobd: can't push to {host}: the server says: {message}")
+        }
         None => Ok(()),
     };
 }

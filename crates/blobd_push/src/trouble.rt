@@ -1,7 +1,8 @@
 //! What goes wrong with a push, and the words for it on standard error.
 ghost use Rattle.std.specs.Prelude.{◌≡◌};
-ghost use Rattle.blobd_push.specs.Trouble.{advice_on, course_after, error_trouble, first_trouble, is_http};
-ghost use Rattle.blobd_push.specs.Trouble.{is_tls, is_unavailable, last_trouble, reason_of};
+ghost use Rattle.blobd_push.specs.Trouble.{advice_anywhere, advice_at_opening, advice_on, advice_within};
+ghost use Rattle.blobd_push.specs.Trouble.{course_after, error_trouble};
+ghost use Rattle.blobd_push.specs.Trouble.{first_trouble, is_http, is_tls, is_unavailable, last_trouble, reason_of};
 ghost use Rattle.blobd_push.specs.Trouble.{status_trouble, trouble_in, words_of, words_of_advice};
 
 use blobd_shared::Quantity;
@@ -71,6 +72,17 @@ pub(crate) fn is_unavailable(bytes: &[u8]) -> bool
     ensures { result ≡ is_unavailable bytes.now }
 {
     bytes.starts_with(b"HTTP/1.1 503 ")
+}
+
+/// What a server's replies tell of its kind.
+#[derive(Clone, Copy, Debug, PartialEq, Eq)]
+pub(crate) enum Kind {
+    /// Nothing: it may be a registry as this one.
+    Untold,
+    /// It wants a state with each request to an upload, which a push doesn't send: it is docker-registry.
+    Stateful,
+    /// It is the adapter of `deploy/`, which has another registry behind it.
+    Adapter,
 }
 
 /// What is wrong with the first bytes that a server sends, if anything is.
@@ -175,29 +187,69 @@ pub(crate) enum Advice {
     IsItHttps,
     /// To push to an address that wants no login.
     NoLogin,
+    /// To give the adapter another login.
+    OtherLogin,
     /// To push again.
     PushAgain,
+    /// To push to docker-registry through what keeps its state.
+    State,
     /// To ask whether the server is a registry.
     IsItARegistry,
+    /// To push to a registry: the server is none.
+    NoRegistry,
     /// To push through what knows the other kind of server.
     Adapter,
     /// To push to where the reply sends.
     GoThere,
 }
 
-/// What to do about a reply of this status, if anything. It matters whether the reply had an error code, and whether an
-/// upload was opened before.
-fn advice_on(status: u16, coded: bool, opened: bool) -> Option<Advice>
-    ensures { result ≡ advice_on status coded opened }
+/// What to do about a reply of this status to a request of an upload, if it is about the upload.
+fn advice_within(status: u16, kind: Kind) -> Option<Advice>
+    ensures { result ≡ advice_within status kind }
 {
-    match status {
-        300..=399 => Some(Advice::GoThere),
-        400 if !coded => Some(Advice::IsItHttps),
-        401 => Some(Advice::NoLogin),
-        404 if opened => Some(Advice::PushAgain),
-        404 => Some(Advice::IsItARegistry),
+    match (status, kind) {
+        (400 | 404, Kind::Stateful) => Some(Advice::State),
+        (404, _) => Some(Advice::PushAgain),
         _ => None,
     }
+}
+
+/// What to do about a reply of this status to the opening of an upload, if no registry gives it, or none that takes
+/// uploads. It matters whether the reply had an error code.
+fn advice_at_opening(status: u16, coded: bool) -> Option<Advice>
+    ensures { result ≡ advice_at_opening status coded }
+{
+    match status {
+        404 => Some(Advice::IsItARegistry),
+        200..=299 | 405 | 501 if !coded => Some(Advice::NoRegistry),
+        _ => None,
+    }
+}
+
+/// What to do about a reply of this status, whatever was asked.
+fn advice_anywhere(status: u16, coded: bool, kind: Kind) -> Option<Advice>
+    ensures { result ≡ advice_anywhere status coded kind }
+{
+    match (status, kind) {
+        (300..=399, _) => Some(Advice::GoThere),
+        (400, _) if !coded => Some(Advice::IsItHttps),
+        (401, Kind::Adapter) => Some(Advice::OtherLogin),
+        (401, _) => Some(Advice::NoLogin),
+        _ => None,
+    }
+}
+
+/// What to do about a reply of this status, if anything. It matters whether the reply had an error code, whether an
+/// upload was opened before, and what is known of the server's kind.
+fn advice_on(status: u16, coded: bool, opened: bool, kind: Kind) -> Option<Advice>
+    ensures { result ≡ advice_on status coded opened kind }
+{
+    let first = if opened {
+        advice_within(status, kind)
+    } else {
+        advice_at_opening(status, coded)
+    };
+    first.or(advice_anywhere(status, coded, kind))
 }
 
 /// The words for what to do.
@@ -210,11 +262,19 @@ fn words_of_advice(advice: Advice) -> &'static str
             "it wants a login, and a push has none: push to the reverse proxy's local address, or through `make adapter \
              REGISTRY=http://host:port LOGIN=FILE`"
         }
-        Advice::PushAgain => {
-            "if it is docker-registry, push through `make adapter REGISTRY=http://host:port`; else it lost the upload: \
-             push again"
+        Advice::OtherLogin => {
+            "the registry behind the adapter wants a login, or another one: start `make adapter` with the LOGIN=FILE of \
+             one that it knows"
+        }
+        Advice::PushAgain => "it lost the upload: push again",
+        Advice::State => {
+            "it is docker-registry, as by the state in its Location: push through `make adapter \
+             REGISTRY=http://host:port`"
         }
         Advice::IsItARegistry => "it takes no uploads into this repository: is it a registry?",
+        Advice::NoRegistry => {
+            "it is no registry: one answers 202 to the opening of an upload, or with an error code"
+        }
         Advice::Adapter => {
             "it is another kind of server, as by the form of its Location: push through `make adapter \
              REGISTRY=http://host:port`"
@@ -247,14 +307,14 @@ fn last_trouble(trouble: Trouble, opened: bool) -> Trouble
 }
 
 /// What there is to say of a push that was given up, beside its line. The trouble is that of its last request.
-pub(crate) fn reason_of(why: &Why, course: Course, trouble: Trouble) -> Option<Reason>
-    ensures { result ≡ reason_of why.now course trouble }
+pub(crate) fn reason_of(why: &Why, course: Course, kind: Kind, trouble: Trouble) -> Option<Reason>
+    ensures { result ≡ reason_of why.now course kind trouble }
 {
     match why {
         Why::OutOfTries => Some(Reason::Lost(last_trouble(trouble, course.opened), course.losses)),
         Why::BadServer => Some(Reason::Advised(Advice::Adapter)),
         Why::Refused(status, code) => {
-            advice_on(*status, code.is_some(), course.opened).map(Reason::Advised)
+            advice_on(*status, code.is_some(), course.opened, kind).map(Reason::Advised)
         }
     }
 }
