@@ -24,7 +24,12 @@ fn print_fault(rt: &HostRuntime, path: &str, fault: &CompactingFault) -> u8 {
 
 /// Says why a list can't be read, and gives the exit status.
 fn print_no_list(rt: &HostRuntime, list: &str, fault: &ListFault) -> u8 {
-    let _ = eprintln!(rt; "blobd: can't read {list}: {fault}");
+    let hint = if list.starts_with("--") {
+        "; options stand before DIR"
+    } else {
+        ""
+    };
+    let _ = eprintln!(rt; "blobd: can't read {list}: {fault}{hint}");
     print_line(&mut io::writer(rt), "refused: keep", REFUSED)
 }
 

@@ -1,9 +1,9 @@
 //! What is wrong with words that are no command.
-ghost use Rattle.std.specs.Prelude.{◌≡◌};
-ghost use Rattle.blobd.specs.Complaints.{IsComplaint, complaint_text};
+ghost use Rattle.std.specs.Prelude.{◌≡◌, IsTrue};
+ghost use Rattle.blobd.specs.Complaints.{HasWrongGrace, IsComplaint, complaint_text};
 
 use crate::size::read_size;
-use crate::words::{MOST_CONNECTIONS, read_addr, read_count};
+use crate::words::{MOST_CONNECTIONS, read_addr, read_count, read_grace};
 
 /// What is wrong with words that are no command.
 #[derive(Clone, Copy, Debug, PartialEq, Eq)]
@@ -14,6 +14,8 @@ pub enum Complaint {
     Count,
     /// The size of a chunk isn't one.
     Chunk,
+    /// The time behind `--grace` isn't one.
+    Grace,
     /// The directory is missing.
     Dir,
     /// There are too few or too many for their command, or others than it has.
@@ -24,8 +26,29 @@ pub enum Complaint {
     NoText,
 }
 
+/// Whether these words are a compaction's, and say a time, before a directory and a list, which is none.
+fn has_wrong_grace(words: &[&str]) -> bool
+    ensures { IsTrue result → HasWrongGrace words.now }
+{
+    match words {
+        ["compact", .., "--grace", seconds, _, _] => read_grace(seconds).is_none(),
+        _ => false,
+    }
+}
+
 /// What is wrong with these words behind the program's name, which are no command.
 pub fn complaint_on(words: &[&str]) -> Complaint
+    ensures { IsComplaint words.now result }
+{
+    if has_wrong_grace(words) {
+        Complaint::Grace
+    } else {
+        other_complaint(words)
+    }
+}
+
+/// What else is wrong with them.
+fn other_complaint(words: &[&str]) -> Complaint
     ensures { IsComplaint words.now result }
 {
     match words {
@@ -53,6 +76,8 @@ pub fn complaint_text(complaint: Complaint) -> &'static str
         Complaint::Count =>
             "COUNT is a number from 1 to 1000000; without it each worker takes all connections that come",
         Complaint::Chunk => "CHUNK is a number of bytes from 1 to 2147483648, as 64K, 16M or 1G",
+        Complaint::Grace =>
+            "SECONDS is a number from 0 to 1000000000: 86400 is a day, as without --grace",
         Complaint::Dir => "DIR is missing: the data directory of a server, as /var/lib/blobd",
         Complaint::Words => "the command has other words: `blobd --help` has an example of each",
         Complaint::Command => "no such command: `blobd --help` says which there are",

@@ -16,6 +16,8 @@ blobd: the blob upload part of an image registry, and a client that pushes files
                              pushes FILE into the repository NAME of the server at ADDR,
                              in chunks of at most CHUNK bytes (1 to 2147483648, as 64K,
                              16M or 1G too; 16M if none is given), unless NAME has it already.
+                             It speaks plain HTTP: ADDR is on this machine, a server or the
+                             adapter to one elsewhere (`make adapter`, deploy/adapter.cfg).
                                blobd push 127.0.0.1:5000 lib/a file.tar 16M
 
   blobd compact [--dry-run] DIR

@@ -4,7 +4,7 @@ ghost use Rattle.upload_intake.specs.Safety.{Leads};
 
 use blobd_data::{
     AnyBodies, CompactingFault, Damaged, DataFault, Teller, Watch, compact_if_worth, hint_on,
-    open_data, read_status, tell_losses, tell_missing,
+    open_data, read_status, stored_beyond, tell_losses, tell_missing,
 };
 use blobd_serve::{Terms, limits, run_serve, run_serve_kept};
 use blobd_shared::{ByteCount, FAULT, Holding, print_line};
@@ -55,6 +55,21 @@ impl fmt::Display for Most {
     }
 }
 
+/// How much a server may hold, as the reason why it can't hold what a directory has: `BLOBD_MEMORY is 24.0 GiB`.
+#[derive(Clone, Copy)]
+struct Limit(Most);
+
+impl fmt::Display for Limit {
+    fn fmt<W: fmt::Write>(&self, f: &mut fmt::Formatter<W>) -> fmt::Result {
+        let Most { bytes, limited } = self.0;
+        if limited {
+            write!(f, "BLOBD_MEMORY is {}", ByteCount(bytes))
+        } else {
+            write!(f, "a server may hold {}", self.0)
+        }
+    }
+}
+
 /// Tells everybody if the environment says so little that hardly a blob has room.
 fn print_small<R: Eprint>(rt: &R, memory: Option<u64>, limited: bool) {
     match memory {
@@ -94,8 +109,30 @@ fn print_holding<R: Eprint>(rt: &R, counts: Counts, memory: Option<u64>, limited
     };
 }
 
-/// How many bytes the blobs and uploads of a data directory have, and how many its server may hold, if a want of room is
-/// why it can't be used.
+/// Refuses a data directory if its blobs surely have more bytes than a server may hold, and says so. Nothing in it is
+/// changed, and no body is read.
+fn refuse_too_large<R: Eprint>(
+    rt: &R,
+    host: &HostRuntime,
+    path: &str,
+    memory: Option<u64>,
+    limited: bool,
+) -> bool {
+    let Some(bytes) = memory else {
+        return false;
+    };
+    let Some(stored) = stored_beyond(host, path, limits(), bytes, Wary) else {
+        return false;
+    };
+    let (holds, limit) = (ByteCount(stored), Limit(Most { bytes, limited }));
+    let _ = eprintln!(rt;
+        "blobd: can't use {path}: it holds {holds}, {limit}: set BLOBD_MEMORY to more"
+    );
+    true
+}
+
+/// How many bytes the blobs of a data directory have, and how many its server may hold, if a want of room is why it can't
+/// be used.
 fn too_much(
     host: &HostRuntime,
     path: &str,
@@ -107,26 +144,31 @@ fn too_much(
         return None;
     }
     let status = read_status(host, path, limits(), Wary).ok()?;
-    Some((
-        status.counts.stored.saturating_add(status.counts.received),
-        may,
-    ))
+    Some((status.counts.stored, may))
 }
 
-/// Says why a data directory can't be used, and what to do: if the server may not hold what it has, how much that is.
+/// Says why a data directory can't be used, and what to do: if the server may not hold what it has, how much that is. If
+/// it might, a start takes more, maybe for what a compaction leaves out.
 fn print_no_data<R: Eprint>(
     rt: &R,
     host: &HostRuntime,
     path: &str,
     fault: &DataFault,
     memory: Option<u64>,
+    limited: bool,
 ) {
     let _ = match too_much(host, path, fault, memory) {
-        Some((holds, may)) => {
-            let (holds, may) = (ByteCount(holds), ByteCount(may));
-            eprintln!(rt;
-                "blobd: can't use {path}: it holds {holds}, a server may hold {may}: set BLOBD_MEMORY to more; {fault}"
-            )
+        Some((stored, bytes)) => {
+            let (holds, limit) = (ByteCount(stored), Limit(Most { bytes, limited }));
+            if stored > bytes {
+                eprintln!(rt;
+                    "blobd: can't use {path}: it holds {holds}, {limit}: set BLOBD_MEMORY to more; {fault}"
+                )
+            } else {
+                eprintln!(rt;
+                    "blobd: can't use {path}: it holds {holds}, {limit}, and a start takes more: `blobd compact {path}` may help, or set BLOBD_MEMORY to more; {fault}"
+                )
+            }
         }
         None => eprintln!(rt; "blobd: can't use {path}: {fault}{}", hint_on(fault)),
     };
@@ -239,7 +281,8 @@ where
 }
 
 /// Serves what comes to an address, by the service that is kept in the data directory at `path`; gives the exit status.
-/// The directory is locked and read first, and standard error says what of it is lost.
+/// The directory is locked and read first, and standard error says what of it is lost. One whose blobs have more bytes
+/// than `terms` let the service hold is refused before that.
 ///
 /// `fault: data` is printed if it can't be, or is damaged and to be refused then, and standard error says why.
 pub fn listen_keeping<'a, R>(
@@ -262,6 +305,9 @@ where
         return print_line(&mut out, "fault: memory", FAULT);
     };
     print_small(rt, terms.memory, told.limited);
+    if refuse_too_large(rt, host, path, terms.memory, told.limited) {
+        return print_line(&mut out, "fault: data", FAULT);
+    }
     make_room(rt, host, path, terms.memory);
     let opened = open_data::<R, Wary, Wary, AnyBodies, _>(
         Watch {
@@ -279,7 +325,7 @@ where
     let data = match opened {
         Ok(data) => data,
         Err(fault) => {
-            print_no_data(rt, host, path, &fault, terms.memory);
+            print_no_data(rt, host, path, &fault, terms.memory, told.limited);
             return print_line(&mut out, "fault: data", FAULT);
         }
     };

@@ -6,9 +6,10 @@ use journal_file::Wary;
 use std::{fmt, io};
 use upload_service::Counts;
 
-/// The numbers as JSON, and what tells of missing records, if something does.
+/// The numbers as JSON; how many records can't be read, if there are any; and what tells of missing ones, if something
+/// does.
 #[derive(Clone, Copy)]
-struct Json(Counts, Missing);
+struct Json(Status);
 
 /// What JSON says of missing records.
 fn missing_text(missing: Missing) -> &'static str {
@@ -26,11 +27,14 @@ impl fmt::Display for Json {
             stored,
             uploads,
             received,
-        } = self.0;
+        } = self.0.counts;
         f.write_str("{")?;
         write!(f, "\"blobs\":{blobs},\"stored\":{stored},")?;
         write!(f, "\"uploads\":{uploads},\"received\":{received}")?;
-        f.write_str(missing_text(self.1))?;
+        if self.0.unread > 0 {
+            write!(f, ",\"unread\":{}", self.0.unread)?;
+        }
+        f.write_str(missing_text(self.0.missing))?;
         f.write_str("}")
     }
 }
@@ -41,11 +45,7 @@ impl fmt::Display for Json {
 /// `fault: data` is printed if the journal can't be read, and standard error says why.
 pub fn print_status(rt: &HostRuntime, path: &str, json: bool) -> u8 {
     let mut out = io::writer(rt);
-    let Status {
-        counts,
-        unread,
-        missing,
-    } = match read_status(rt, path, limits(), Wary) {
+    let status = match read_status(rt, path, limits(), Wary) {
         Ok(status) => status,
         Err(fault) => {
             let hint = hint_on(&fault);
@@ -53,13 +53,13 @@ pub fn print_status(rt: &HostRuntime, path: &str, json: bool) -> u8 {
             return print_line(&mut out, "fault: data", FAULT);
         }
     };
-    if unread > 0 {
-        let unread = Quantity(unread, "record");
+    if status.unread > 0 {
+        let unread = Quantity(status.unread, "record");
         let _ = eprintln!(rt; "blobd: damage in {path}: {unread} can't be read");
     }
-    tell_end(rt, path, missing);
+    tell_end(rt, path, status.missing);
     if json {
-        return print_line(&mut out, Json(counts, missing), DONE);
+        return print_line(&mut out, Json(status), DONE);
     }
-    print_line(&mut out, WholeHolding(counts), DONE)
+    print_line(&mut out, WholeHolding(status.counts), DONE)
 }

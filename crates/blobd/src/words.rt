@@ -105,7 +105,7 @@ pub(crate) fn read_addr(word: &str) -> Option<SocketAddr>
 }
 
 /// The number of seconds, of which there may be none, that a word writes.
-fn read_grace(word: &str) -> Option<u64>
+pub(crate) fn read_grace(word: &str) -> Option<u64>
     ensures { MatchOption result ((number : ℕ) → ¬ (IsGrace word.now number)) (IsGrace word.now) }
 {
     read_within(word, 0, MOST_GRACE)

@@ -6,5 +6,5 @@ use Rattle.upload_service.specs.declared.limits.Limits.{Limits}
 -- "uploads\n", the version of the format, and the four limits, each a number in eight bytes
 abbrev pub parameters_of : Limits → List ℕ
 parameters_of limits =
-    codes "uploads\n" ++ (number_bytes 1 ++ (number_bytes limits.max_blob ++ (number_bytes limits.max_body
+    codes "uploads\n" ++ (number_bytes 2 ++ (number_bytes limits.max_blob ++ (number_bytes limits.max_body
     ++ (number_bytes limits.max_open ++ number_bytes limits.max_idle))))

@@ -5,12 +5,12 @@ ghost use Rattle.upload_service.specs.Machine.{AreLawful};
 use crate::fault::DataFault;
 use crate::files::{amount_but, list_files, note_named};
 use crate::line::line_of;
-use crate::loss::tell_final;
-use crate::open::{FRESH, JOURNAL, has_bodies, open_journal, open_shelf, refuse_cut};
+use crate::loss::{tell_final, tell_mended};
+use crate::open::{FRESH, JOURNAL, has_bodies, mend_all, open_journal, open_shelf, refuse_cut};
 use crate::texts::StoreText;
 use blobd_shared::{ByteCount, Quantity};
 use bodies::{AheadShelf, Holds, Shelf};
-use journal::{Ending, Journal};
+use journal::{Ending, Journal, Looked};
 use journal_file::{FileFrom, Folder, OpenFault, Start};
 use sqlite_disk::Disk;
 use std::io::{self, ErrorKind};
@@ -121,15 +121,19 @@ impl fmt::Display for Room {
     }
 }
 
-/// Whether something of this name is in the folder at this path.
-pub(crate) fn is_there(rt: &HostRuntime, path: &str, name: &str) -> Result<bool, CompactingFault> {
+/// How many bytes what has this name in the folder at this path has, or None if there is nothing.
+pub(crate) fn length_of(
+    rt: &HostRuntime,
+    path: &str,
+    name: &str,
+) -> Result<Option<u64>, CompactingFault> {
     let file = match format!(in rt.alloc(); "{path}/{name}") {
         Ok(file) => file,
         Err(_) => return Err(CompactingFault::Compact(CompactFault::NoMemory)),
     };
     match fs::symlink_metadata(rt, file.as_str()) {
-        Ok(_) => Ok(true),
-        Err(error) if error.kind() == ErrorKind::NotFound => Ok(false),
+        Ok(found) => Ok(Some(found.len())),
+        Err(error) if error.kind() == ErrorKind::NotFound => Ok(None),
         Err(error) => Err(CompactingFault::Data(DataFault::Journal(OpenFault::from(error)))),
     }
 }
@@ -162,29 +166,50 @@ fn switch(rt: &HostRuntime, folder: &Folder, takes_place: bool) -> Result<(), Co
     }
 }
 
-/// Sees that a journal that was recovered doesn't end as no crash leaves it.
-fn see_its_end<D: Disk>(journal: &mut Journal<D>) -> Result<(), CompactingFault> {
-    match journal.ending() {
-        Ok(Ending::Broken) => Err(CompactingFault::BrokenJournal),
-        Ok(Ending::Sound | Ending::Doubtful) => Ok(()),
+/// Notes which files a journal names, and says how it ends. A broken one is refused: a start may mend it.
+fn look_at<D: Disk>(
+    rt: &HostRuntime,
+    journal: &mut Journal<D>,
+    named: &mut Named,
+) -> Result<Looked, CompactingFault> {
+    match note_named(rt, journal, named) {
+        Ok(looked) if looked.ending == Ending::Broken => Err(CompactingFault::BrokenJournal),
+        Ok(looked) => Ok(looked),
+        Err(fault) => Err(CompactingFault::Compact(CompactFault::Old(fault))),
+    }
+}
+
+/// The same of the journal of the directory at `path`, before it is recovered, which would write over what can be mended. If
+/// a crash may have left its end so, what a damaged sector hides there is brought back first, as by a start.
+fn look_first<D: Disk>(
+    rt: &HostRuntime,
+    path: &str,
+    journal: &mut Journal<D>,
+    named: &mut Named,
+) -> Result<Looked, CompactingFault> {
+    let looked = look_at(rt, journal, named)?;
+    if looked.ending == Ending::Sound {
+        return Ok(looked);
+    }
+    match mend_all(rt, journal) {
+        Ok(0) => Ok(looked),
+        Ok(mended) => {
+            tell_mended(rt, path, mended);
+            look_at(rt, journal, named)
+        }
         Err(error) => Err(CompactingFault::Compact(CompactFault::Old(StoreFault::Journal(error)))),
     }
 }
 
-/// Whether a journal marks that records are lost. The new one doesn't: what is asked for now is that their bodies go.
-/// That is told before, with the files of the directory at `path` that neither names.
-fn tell_mark<D: Disk, N: Disk>(
+/// Tells which files of the directory at `path` go for good, if records may be lost: the old journal, which names these
+/// files, doesn't end soundly, or has a mark. The new one ends soundly: what is asked for now is that their bodies go.
+fn tell_lost<N: Disk>(
     rt: &HostRuntime,
     path: &str,
-    old: &mut Journal<D>,
+    named: Named,
     fresh: &mut Journal<N>,
-) -> Result<bool, CompactingFault> {
-    let mut named = Named::new(rt.alloc());
-    match note_named(rt, old, &mut named) {
-        Ok(looked) if looked.has_mark => {}
-        Ok(_) => return Ok(false),
-        Err(fault) => return Err(CompactingFault::Compact(CompactFault::Old(fault))),
-    }
+) -> Result<(), CompactingFault> {
+    let mut named = named;
     if let Err(fault) = note_named(rt, fresh, &mut named) {
         return Err(CompactingFault::Compact(CompactFault::New(fault)));
     }
@@ -192,7 +217,7 @@ fn tell_mark<D: Disk, N: Disk>(
         Ok(files) => tell_final(rt, path, amount_but(&files, &named)),
         Err(fault) => return Err(CompactingFault::Data(DataFault::Bodies(fault))),
     }
-    Ok(true)
+    Ok(())
 }
 
 /// Removes the files that no record of a journal names, and says how many.
@@ -234,7 +259,7 @@ pub fn compact_data<R: Threads, J: Start, N: Start, S: Start, H: Holds>(
     requires lawful { AreLawful limits }
     requires empty { S.Start.db ≡ [] }
 {
-    if !is_there(rt, path, JOURNAL)? {
+    if length_of(rt, path, JOURNAL)?.is_none() {
         return Err(CompactingFault::NoJournal);
     }
     let lock = match Folder::open(rt, path) {
@@ -286,8 +311,10 @@ fn compact_in<R: Threads, J: Start, N: Start, S: Start, H: Holds>(
     }
     let none = Vec::new(rt.alloc());
     let shelf = AheadShelf::new(threads, rt.alloc(), shelf, none, most_ahead(memory));
+    let mut journal = Journal::new(file, line_of(limits));
+    let mut named = Named::new(rt.alloc());
+    let looked = look_first(rt, path, &mut journal, &mut named)?;
     let fresh = open_fresh(rt, folder, fresh_start)?;
-    let journal = Journal::new(file, line_of(limits));
     let fresh = Journal::new(fresh, line_of(limits));
     let line = line_of(limits);
     let it = match compact(rt.alloc(), journal, fresh, line, shelf, limits, leaving) {
@@ -295,7 +322,7 @@ fn compact_in<R: Threads, J: Start, N: Start, S: Start, H: Holds>(
         Err(fault) => return Err(CompactingFault::Compact(fault)),
     };
     let Compacted {
-        mut old,
+        old,
         mut fresh,
         shelf,
         is_shorter,
@@ -304,8 +331,10 @@ fn compact_in<R: Threads, J: Start, N: Start, S: Start, H: Holds>(
         gone,
     } = it;
     let shelf = shelf.into_inner();
-    see_its_end(&mut old)?;
-    let takes_place = tell_mark(rt, path, &mut old, &mut fresh)? || is_shorter;
+    let takes_place = looked.has_mark || is_shorter;
+    if takes_place && !looked.is_sure() {
+        tell_lost(rt, path, named, &mut fresh)?;
+    }
     switch(rt, folder, takes_place)?;
     let (files, after) = if takes_place {
         (sweep_by(rt, fresh, shelf)?, after)

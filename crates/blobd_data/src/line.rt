@@ -10,7 +10,7 @@ use upload_service::Limits;
 const NAME: [u8; 8] = *b"uploads\n";
 
 /// The version of their format.
-const VERSION: u64 = 1;
+const VERSION: u64 = 2;
 
 /// How many bytes the parameters have.
 const LENGTH: usize = 48;
@@ -32,7 +32,7 @@ fn parameters(limits: Limits) -> [u8; LENGTH]
 /// format; a journal with another version or other limits has another line, so that it is refused. Its answers would
 /// come out otherwise.
 pub fn line_of(limits: Limits) -> Line
-    ensures { take (24 + 48) (line_bytes result) ≡ line_text (parameters_of limits) }
+    ensures { take (32 + 48) (line_bytes result) ≡ line_text (parameters_of limits) }
 {
     match Line::new(&parameters(limits)) {
         Some(line) => line,

@@ -1,5 +1,5 @@
 //! What is told of the records that are lost.
-use crate::open::{BODIES, Missing};
+use crate::open::{BODIES, Missing, Repairs};
 use crate::texts::RecordText;
 use blobd_shared::{ByteCount, Quantity};
 use std::io::{self, Eprint};
@@ -156,7 +156,7 @@ pub fn tell_end<R: Eprint>(rt: &R, path: &str, missing: Missing) {
     let _ = match missing {
         Missing::None => Ok(()),
         Missing::Here => eprintln!(rt;
-            "blobd: damage in {path}: journal: records are missing at its end: it is damaged or cut there, or a copy that was made while a server wrote; a start goes on without them"
+            "blobd: damage in {path}: journal: records are missing at its end: it is damaged or cut there, or a copy that was made while a server wrote; a start goes on without what it can't mend"
         ),
         Missing::Before => tell_before(rt, path),
     };
@@ -170,7 +170,7 @@ pub fn tell_final<R: Eprint>(rt: &R, path: &str, unnamed: Amount) {
     }
     let (files, bytes) = (Quantity(unnamed.files, "file"), ByteCount(unnamed.in_files));
     let _ = eprintln!(rt;
-        "blobd: {path}: records are missing, and a compaction makes that final: {files}, {bytes}, go that no record names"
+        "blobd: {path}: records may be missing, and a compaction makes that final: {files}, {bytes}, go that no record names"
     );
 }
 
@@ -181,10 +181,22 @@ pub fn tell_files<R: Eprint>(rt: &R, path: &str) {
     );
 }
 
-/// Tells on standard error how many files a start of the directory at `path` has removed, which no record named.
-pub fn tell_removed<R: Eprint>(rt: &R, path: &str, removed: u64) {
-    if removed > 0 {
-        let files = Quantity(removed, "file");
+/// Tells on standard error how many damaged sectors of the journal of the directory at `path` are mended.
+pub(crate) fn tell_mended<R: Eprint>(rt: &R, path: &str, mended: u64) {
+    let sectors = Quantity(mended, "damaged sector");
+    let _ = eprintln!(rt;
+        "blobd: damage in {path}: journal: {sectors} mended, so that what stands there is read again"
+    );
+}
+
+/// Tells on standard error what a start has mended in the directory at `path`, and how many files it has removed, which
+/// no record named.
+pub fn tell_repairs<R: Eprint>(rt: &R, path: &str, repairs: Repairs) {
+    if repairs.mended > 0 {
+        tell_mended(rt, path, repairs.mended);
+    }
+    if repairs.removed > 0 {
+        let files = Quantity(repairs.removed, "file");
         let _ = eprintln!(rt; "blobd: {path}: {files} of bodies removed, which no record named");
     }
 }
@@ -192,7 +204,7 @@ pub fn tell_removed<R: Eprint>(rt: &R, path: &str, removed: u64) {
 /// Tells that a start has gone on without records of the directory at `path`.
 fn tell_before<R: Eprint>(rt: &R, path: &str) -> io::Result<()> {
     eprintln!(rt;
-        "blobd: {path}: an earlier start went on without records that were missing, or the length of a record was damaged; no file is removed before `blobd compact {path}`"
+        "blobd: {path}: an earlier start went on without records that were missing; no file is removed before `blobd compact {path}`"
     )
 }
 

@@ -10,7 +10,7 @@ ghost use Rattle.blobd_data.specs.Opened.{HasBegun};
 use crate::fault::DataFault;
 use crate::host::seconds_now;
 use crate::line::line_of;
-use crate::loss::tell_removed;
+use crate::loss::tell_repairs;
 use crate::progress::{Progress, Watch};
 use bodies::{FolderShelf, Holds, Shelf};
 use journal::{Ending, Journal, Looked};
@@ -23,7 +23,7 @@ use std::thread::Threads;
 use upload_bytes::Room;
 use upload_intake::KeptService;
 use upload_keeping::{KeepingHost, StoreKeeping, open_ahead, salvage_ahead};
-use upload_records::sweep;
+use upload_records::{Swept, sweep};
 use upload_service::Limits;
 use upload_store::{Losses, Store, StoreFault};
 
@@ -39,6 +39,9 @@ pub(crate) const BEGUN: usize = 8_192;
 
 /// The folder of the bodies, within it.
 pub(crate) const BODIES: &str = "bodies";
+
+/// A start mends so many damaged sectors of a journal at most.
+const MOST_MENDED: u64 = 4_096;
 
 /// What a file system has in its own folder.
 const LOST_AND_FOUND: &str = "lost+found";
@@ -234,6 +237,42 @@ pub(crate) fn refuse_cut<D: Disk, S: Shelf>(
     Ok(())
 }
 
+/// Reads a journal, and removes the files that no record names, if that is sure. Of one that doesn't end soundly, what
+/// damaged sectors hide is brought back first, if the directory isn't refused for it: counts these sectors.
+fn sweep_mended<D: Disk, S: Shelf>(
+    rt: &HostRuntime,
+    journal: &mut Journal<D>,
+    shelf: &mut S,
+    damaged: Damaged,
+    mended: &mut u64,
+) -> Result<Swept, StoreFault> {
+    let swept = sweep(rt.alloc(), journal, shelf)?;
+    match (swept.looked.ending, damaged) {
+        (Ending::Sound, _) | (Ending::Broken, Damaged::Refused) => return Ok(swept),
+        (Ending::Doubtful, _) | (Ending::Broken, Damaged::Opened) => {}
+    }
+    *mended = match mend_all(rt, journal) {
+        Ok(0) => return Ok(swept),
+        Ok(count) => count,
+        Err(error) => return Err(StoreFault::Journal(error)),
+    };
+    sweep(rt.alloc(), journal, shelf)
+}
+
+/// Brings back each batch that a damaged sector hides, up to so many. Says how many sectors there were. The journal is read
+/// once more for each.
+pub(crate) fn mend_all<D: Disk>(
+    rt: &HostRuntime,
+    journal: &mut Journal<D>,
+) -> Result<u64, journal::Error> {
+    for mended in 0..MOST_MENDED {
+        if !journal.mend(rt.alloc())? {
+            return Ok(mended);
+        }
+    }
+    Ok(MOST_MENDED)
+}
+
 /// Has a journal that ends as no crash leaves it go on from there, if the directory isn't refused for it. Says what tells
 /// of lost records.
 fn settle_end<D: Disk>(
@@ -254,6 +293,15 @@ fn settle_end<D: Disk>(
     }
 }
 
+/// What a start does before it runs the records.
+#[derive(Clone, Copy, Debug)]
+pub(crate) struct Repairs {
+    /// How many sectors of the journal were damaged, and hid records that are back.
+    pub mended: u64,
+    /// How many files were removed that no record names.
+    pub removed: u64,
+}
+
 /// A store in a folder, which reads nothing yet.
 #[derive(Drop)]
 struct Found<D: Disk, S: Shelf> {
@@ -261,8 +309,7 @@ struct Found<D: Disk, S: Shelf> {
     /// That of a start from it.
     progress: Progress,
     missing: Missing,
-    /// How many files were removed that no record names.
-    removed: u64,
+    repairs: Repairs,
 }
 
 /// A store in a folder. Files that no record names are removed.
@@ -293,14 +340,20 @@ where
     let mut shelf = open_shelf(rt, folder)?;
     refuse_cut(rt, &mut file, &mut shelf)?;
     let mut journal = Journal::new(file, line_of(limits));
-    let (missing, named, removed) = match sweep(rt.alloc(), &mut journal, &mut shelf) {
+    let mut repairs = Repairs {
+        mended: 0,
+        removed: 0,
+    };
+    let swept = sweep_mended(rt, &mut journal, &mut shelf, damaged, &mut repairs.mended);
+    let (missing, named) = match swept {
         Ok(swept) => {
             let time = seconds_now(watch.rt);
             let missing = settle_end(rt, &mut journal, swept.looked, damaged, time)?;
-            (missing, swept.named, swept.removed.unwrap_or(0))
+            repairs.removed = swept.removed.unwrap_or(0);
+            (missing, swept.named)
         }
         // Files go only if nothing is missing. What can't be removed now stays for the next start.
-        Err(StoreFault::Body(_)) => (Missing::None, 0, 0),
+        Err(StoreFault::Body(_)) => (Missing::None, 0),
         Err(fault) => return Err(DataFault::Store(fault)),
     };
     let progress = Progress::begin(watch, rt.alloc(), named, shelf.counter());
@@ -313,7 +366,7 @@ where
         store,
         progress,
         missing,
-        removed,
+        repairs,
     })
 }
 
@@ -371,8 +424,9 @@ fn open_store<R: Threads, J: Start, S: Start, H: Holds, T: KeepingHost + Drop>(
 /// has another format, another version or other limits, it can't be read, there is no memory for a record, or one can't
 /// be run again and `damaged` has the directory refused for it. `BrokenJournal`: the journal ends as no crash leaves
 /// it, and `damaged` has the directory refused for it: nothing is written. Behind an error no record of the directory
-/// is changed, and no body that one names, and no more than the end of the journal is written, which a crash may have
-/// left. Bodies that no record names are removed first, unless a record or the journal's end is damaged, or was once.
+/// is changed, and no body that one names, and no more is written of the journal than its end, which a crash may have
+/// left, and the sectors between records that hid some. Bodies that no record names are removed first, unless a record
+/// or the journal's end is damaged, or was once.
 pub fn open_data<R, J: Start, S: Start, H: Holds, T: KeepingHost + Drop>(
     watch: Watch<'_, R>,
     rt: &HostRuntime,
@@ -404,9 +458,9 @@ where
         store,
         progress,
         missing,
-        removed,
+        repairs,
     } = store_in(watch, rt, &lock, limits, room, start, damaged)?;
-    tell_removed(watch.rt, path, removed);
+    tell_repairs(watch.rt, path, repairs);
     let opened = open_store(watch.rt, rt, lock, store, limits, host, damaged, missing);
     progress.end(watch.rt);
     let opened = opened?;

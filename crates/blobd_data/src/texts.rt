@@ -185,5 +185,6 @@ fn entry_text(fault: EntryFault) -> &'static str {
         EntryFault::BadBody => "its text has a body that is none",
         EntryFault::BadAnswer => "its text has an answer that is none",
         EntryFault::Trailing => "its text goes on behind its end",
+        EntryFault::BadChecksum => "its text has changed",
     }
 }

@@ -3,8 +3,8 @@ ghost use Rattle.std.specs.Prelude.{◌≡◌, ◌↔◌, [], IsTrue};
 ghost use Rattle.upload_service.specs.Machine.{AreLawful};
 ghost use Rattle.blobd_data.specs.Worth.{IsWorth};
 
-use crate::compacting::{CompactingFault, Room, compact_data, is_there};
-use crate::open::FRESH;
+use crate::compacting::{CompactingFault, Room, compact_data, length_of};
+use crate::open::{FRESH, JOURNAL};
 use crate::weighing::weigh_records;
 use bodies::Holds;
 use journal_file::Start;
@@ -15,14 +15,16 @@ use upload_service::Limits;
 /// How many bytes have to go, or the rest isn't looked at.
 const LEAST: u64 = 67_108_864;
 
-/// Whether a journal is worth to be written anew: 64 MiB or more would go, and that is more than half of the records'
-/// bytes, or more than a tenth of the files.
-pub fn is_worth(weight: &Weight) -> bool
-    ensures { IsTrue result ↔ IsWorth weight.now }
+/// Whether a journal of so many bytes is worth to be written anew: 64 MiB or more would go, and that is more than half of
+/// the journal, or more than a tenth of the files. What stands between records goes, too: a batch of one small record
+/// takes 8 KiB.
+pub fn is_worth(weight: &Weight, length: u64) -> bool
+    ensures { IsTrue result ↔ IsWorth weight.now length }
 {
     let Weight { needed, dead, .. } = *weight;
-    dead.records.saturating_add(dead.in_files) >= LEAST
-        && (dead.records > needed.records || dead.files > needed.files / 9)
+    let goes = length.saturating_sub(needed.records);
+    goes.saturating_add(dead.in_files) >= LEAST
+        && (goes > needed.records || dead.files > needed.files / 9)
 }
 
 /// Sees that two services which hold what a journal leads to fit into so much memory, if there is a limit.
@@ -60,11 +62,12 @@ pub fn compact_if_worth<R: Threads, L: Start, J: Start, N: Start, S: Start, H: H
     let Ok(weight) = weigh_records(rt, path, limits, looked) else {
         return Ok(None);
     };
-    if !weight.looked.is_sure() || !is_worth(&weight) {
+    let length = length_of(rt, path, JOURNAL)?.unwrap_or(0);
+    if !weight.looked.is_sure() || !is_worth(&weight, length) {
         return Ok(None);
     }
     see_it_fits(&weight, memory)?;
-    if is_there(rt, path, FRESH)? {
+    if length_of(rt, path, FRESH)?.is_some() {
         return Err(CompactingFault::CutOff);
     }
     let room = compact_data::<R, J, N, S, H>(
