@@ -1,7 +1,7 @@
 #!/usr/bin/env python3
 """Figures of `blobd serve` with a data directory, beside itself without one and docker-registry on the same disk.
 
-    disk.py PROGRAM [--folder FOLDER] [--mib SIZE] [--blobs COUNT] [--runs N] [--starts]
+    disk.py PROGRAM [--folder FOLDER] [--mib SIZE] [--blobs COUNT] [--runs N] [--starts] [--start-gib GIB] [--small COUNT]
 
 The servers take turns, each run with a new server and a new folder in FOLDER, which should be on a disk and not in
 memory. A figure is the best of the runs. Uploads are compared with `sha256sum` on the same bytes, in the same runs; small
@@ -10,9 +10,13 @@ clients, in which each has a request. These clients are wrk's, and each asks as 
 installed, one thread of Python sends a request of each before it reads a reply, and is slower than the server. A
 request that changes nothing waits beside uploads of four times SIZE: its longest wait, and the longest of a sync beside
 the same. A start is that of a server with a directory that has eight blobs of SIZE, in one body each or in chunks of
-4 MiB, and that of one which was compacted since. `blobd compact` has twenty times COUNT small blobs, or eight of SIZE in
-one body each, and is measured beside a start with them; `--starts` measures no more than starts and that. Needs Linux.
+4 MiB, and that of one which was compacted since; `--start-gib` adds one with so many GiB of them, all of which the server
+holds in memory. `blobd compact` has eight blobs of SIZE in one body each, or twenty times COUNT small ones, or as many as
+`--small` says. It is measured beside a start with them, and what it writes of the small ones beside the same bytes written
+one behind another, with a sync at their end, in the same run. `--starts` measures no more than starts and compactions.
+Needs Linux.
 """
+import collections
 import contextlib
 import functools
 import hashlib
@@ -32,6 +36,7 @@ from harness.running import MIB
 from harness.suite import OPTIONS
 
 SMALL_SIZE = 1_024
+KIB = 1 << 10
 CROWD = 16
 # how often the blob is uploaded beside a request that waits, and how many others before a start
 BESIDE, BEFORE_A_START = 4, 8
@@ -239,10 +244,10 @@ def waited(settings, blob):
     return min(best)
 
 
-def large_blobs(blob, chunk, server):
-    """Has a new server get blobs of this size, each sent in chunks of that size."""
+def large_blobs(blob, chunk, server, count=BEFORE_A_START):
+    """Has a new server get so many blobs of this size, each sent in chunks of that size."""
     with server, server.connect() as connection:
-        for _ in range(BEFORE_A_START):
+        for _ in range(count):
             # another one: a start would remove what was sent of one that is there
             blob.write()
             loopback.upload(connection, "lib/a", blob, chunk)
@@ -254,24 +259,43 @@ def compact(settings, data):
     subprocess.run(words, env=env, check=True, capture_output=True)
 
 
-def started(settings, blob, chunk, is_compacted=False):
-    """A start with blobs of this size, each sent in chunks of that size, and compacted if that is said: the bytes that it
-    reads in a second, and `sha256sum`'s in the same run."""
+def started(settings, blob, chunk, is_compacted=False, count=BEFORE_A_START):
+    """A start with so many blobs of this size, each sent in chunks of that size, and compacted if that is said: the bytes
+    that it reads in a second, and `sha256sum`'s in the same run."""
     with tempfile.TemporaryDirectory(dir=OPTIONS.folder) as folder:
         server = OnDisk(settings, folder)
-        large_blobs(blob, chunk, server)
+        large_blobs(blob, chunk, server, count)
         if is_compacted:
             compact(settings, server.settings["BLOBD_DATA"])
         best = []
         for _ in range(OPTIONS.runs):
             taken = loopback.seconds(lambda: server.__enter__())
             server.__exit__()
-            best.append((BEFORE_A_START * blob.size / taken, blob.size / loopback.hashed(blob)[0]))
+            best.append((count * blob.size / taken, blob.size / loopback.hashed(blob)[0]))
     return max(best)
 
 
+def write_alone(size, file):
+    """Writes so many bytes one behind another, and syncs."""
+    part = os.urandom(MIB)
+    for left in range(size, 0, -MIB):
+        file.write(part[:left])
+    os.fdatasync(file.fileno())
+
+
+def written_alone(size):
+    """The seconds of that, on the disk of the data directories."""
+    with tempfile.TemporaryFile(dir=OPTIONS.folder, buffering=0) as file:
+        return loopback.seconds(lambda: write_alone(size, file))
+
+
+# A compaction: the seconds that it takes, those of a start before it, how many bytes its journal has, and the seconds in
+# which as many are written alone.
+Compacted = collections.namedtuple("Compacted", ["taken", "start", "size", "alone"])
+
+
 def compacted(settings, fill):
-    """A compaction of a directory that a server was filled with: how long it takes, and a start with it in the same run."""
+    """A compaction of a directory that a server was filled with: the best of some, beside a start with it."""
     with tempfile.TemporaryDirectory(dir=OPTIONS.folder) as folder:
         server = OnDisk(settings, folder)
         fill(server)
@@ -281,9 +305,11 @@ def compacted(settings, fill):
             shutil.copytree(server.settings["BLOBD_DATA"], copy)
             start = loopback.seconds(lambda: server.__enter__())
             server.__exit__()
-            best.append((loopback.seconds(functools.partial(compact, settings, copy)), start))
+            taken = loopback.seconds(functools.partial(compact, settings, copy))
+            size = os.path.getsize(os.path.join(copy, "journal"))
+            best.append(Compacted(taken, start, size, written_alone(size)))
             shutil.rmtree(copy)
-    return min(best, key=lambda pair: pair[0] / pair[1])
+    return min(best, key=lambda one: one.taken / one.start)
 
 
 def measured(all_, blob):
@@ -310,18 +336,30 @@ def all_lines(settings, all_, blob):
         wait, sync = waited(settings, blob)
         beside = f"{wait / sync:.1f} of the longest sync there"
         yield ["a GET beside uploads", OnDisk.name, f"{wait * 1e3:,.1f} ms at most", beside]
-    starts = ("a start", blob.size), ("a start with chunks", CHUNK), ("the same, compacted", CHUNK, True)
+    yield from all_starts(settings, blob)
+    yield from all_compactions(settings, blob)
+
+
+def all_starts(settings, blob):
+    starts = [("a start", blob.size), ("a start with chunks", CHUNK), ("the same, compacted", CHUNK, True)]
+    if OPTIONS.start_gib:
+        starts.append((f"a start with {OPTIONS.start_gib} GiB", blob.size, False, OPTIONS.start_gib * KIB // OPTIONS.mib))
     for name, *how in starts:
         read, plain = started(settings, blob, *how)
         yield [name, OnDisk.name, f"{read / 1e6:,.0f} MB/s", f"{read / plain:.2f} of `sha256sum`"]
-    taken, start = compacted(settings, functools.partial(large_blobs, blob, blob.size))
-    beside = f"{taken / start:.2f} of a start with them"
-    speed = f"{BEFORE_A_START * blob.size / taken / 1e6:,.0f} MB/s"
+
+
+def all_compactions(settings, blob):
+    one = compacted(settings, functools.partial(large_blobs, blob, blob.size))
+    beside = f"{one.taken / one.start:.2f} of a start with them"
+    speed = f"{BEFORE_A_START * blob.size / one.taken / 1e6:,.0f} MB/s"
     yield [f"a compaction of {BEFORE_A_START} blobs", "blobd compact", speed, beside]
-    count = COMPACTED * OPTIONS.blobs
-    taken, start = compacted(settings, functools.partial(small_blobs, count, CROWD))
-    beside = f"{taken / start:.2f} of a start with them"
-    yield [f"a compaction of {count} small blobs", "blobd compact", f"{count / taken:,.0f} a second", beside]
+    count = OPTIONS.small or COMPACTED * OPTIONS.blobs
+    one = compacted(settings, functools.partial(small_blobs, count, CROWD))
+    beside = f"{one.taken / one.start:.2f} of a start with them"
+    yield [f"a compaction of {count} small blobs", "blobd compact", f"{count / one.taken:,.0f} a second", beside]
+    beside = f"{one.alone / one.taken:.2f} of writes one behind another"
+    yield ["what that writes", "blobd compact", f"{one.size / one.taken / 1e6:,.0f} MB/s", beside]
 
 
 def main(settings):
@@ -348,7 +386,9 @@ if __name__ == "__main__":
     parser.add_argument("--mib", type=int, default=256, help="the size of a blob (%(default)s)")
     parser.add_argument("--blobs", type=int, default=1_000, help="how many small blobs are stored (%(default)s)")
     parser.add_argument("--runs", type=int, default=3, help="how often each is measured (%(default)s)")
-    parser.add_argument("--starts", action="store_true", help="measure starts alone")
+    parser.add_argument("--starts", action="store_true", help="measure starts and compactions alone")
+    parser.add_argument("--start-gib", type=int, default=0, help="a start with so many GiB more (none)")
+    parser.add_argument("--small", type=int, default=0, help="how many small blobs are compacted (twenty times COUNT)")
     parser.parse_args(namespace=OPTIONS)
     OPTIONS.program, OPTIONS.folder = map(os.path.abspath, (OPTIONS.program, OPTIONS.folder))
     main(servers.MALLOC)

@@ -56,6 +56,8 @@ def help_and_version():
         "blobd --help",
         "blobd --version",
         "BLOBD_LOG=1",
+        "It speaks plain HTTP: ADDR is on this machine",
+        "deploy/adapter.cfg",
     ):
         check(f"help tells of {command}", command in told, told)
     check("help fits a terminal", max(map(len, told.splitlines())) <= 100, told)
@@ -71,6 +73,9 @@ def a_terminal_is_told_which_word():
         (["push", "127.0.0.1", "lib/a", "file"], "ADDR is an IP address and a port"),
         (["serve", "127.0.0.1:0", "0"], "COUNT is a number from 1 to 1000000"),
         (["push", "127.0.0.1:1", "lib/a", "file", "16MB"], "CHUNK is a number of bytes"),
+        (["compact", "--grace", "1d", "d", "k"], "SECONDS is a number from 0 to 1000000000"),
+        (["compact", "--dry-run", "--grace", "-1", "d", "k"], "SECONDS is a number from 0 to 1000000000"),
+        (["compact", "--grace", "1", "d"], "the command has other words"),
         (["push", "127.0.0.1:1", "lib/a"], "the command has other words"),
         (["status"], "DIR is missing"),
         (["status", "--json"], "DIR is missing"),

@@ -369,6 +369,10 @@ def lists_that_are_refused(folder):
         wanted = "refused: keep\n", 1, f"blobd: can't read {keep}: {why}\n"
         for words in (["--grace", "0"], ["--dry-run", "--grace", "0"]):
             equal(f"the list {text!r}", run("compact", *words, path, keep), wanted)
+    # an option behind DIR is taken for KEEP
+    printed, status, told = run("compact", path, "--dry-run")
+    equal("an option behind the directory", (printed, status), ("refused: keep\n", 1))
+    check("what is told of it", told.endswith("; options stand before DIR\n"), told)
     with open(keep, "wb") as file:
         file.write(f"{good}\n".encode() + b"\xff\n")
     for none in (keep, folder, os.path.join(folder, "nothing")):

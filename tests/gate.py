@@ -36,6 +36,7 @@ PARTS = [
     ("how much it holds", driving("serve_room")),
     ("the log of the server", driving("serve_log")),
     ("its data directory", driving("serve_data")),
+    ("its data directory on a disk that fails", driving("serve_disks")),
     ("what it says that it holds", driving("serve_status")),
     ("its directory compacted", driving("compactions")),
     ("power cuts", driving("power_cuts")),

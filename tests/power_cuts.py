@@ -10,18 +10,21 @@ request that it heard the answer of, or the next one's. Some starts are cut as w
 
 `blobd compact` is cut at each of its calls too: a start behind that has all that there was, and so it has behind a second
 compact. So is one with a list of what is referred to: what that has is there behind each cut, and what else is there is
-what was there.
+what was there. So is a start that compacts by itself. Behind each the bodies are those of before, or of the compaction, and
+nothing is left of what was cut.
 """
 import collections
+import functools
 import itertools
 import os
 import random
+import subprocess
 import tempfile
 import threading
 import time
 
 from harness import disks, running, shims
-from harness.running import Server
+from harness.running import MIB, Server
 from harness.suite import OPTIONS, case, check, equal, main
 from harness.wire import sha256
 
@@ -29,8 +32,12 @@ from harness.wire import sha256
 END = 1 << 62
 CLIENTS = 3
 STEPS = 24
-# A body of more than 64 KiB has a file of its own. One of 256 KiB or more is written before its request is asked.
-SIZES = [0, 1, 300, 4_000, 65_000, 66_000, 150_000, 262_143, 262_144, 300_000]
+# A body of more than 64 KiB has a file of its own, which is written and synced before its request is asked.
+SIZES = [0, 1, 300, 4_000, 65_000, 66_000, 150_000, 300_000]
+# One of some parts of 4 MiB each, which are written and synced one after another.
+LONG = 9 * MIB + 5
+# A start compacts by itself if 64 MiB go.
+WASTE = 65 * MIB
 
 # What a client's repositories have: for each upload how many bytes it has received, and the digests of the blobs.
 State = collections.namedtuple("State", ["uploads", "blobs"])
@@ -42,7 +49,7 @@ class Story:
 
     def __init__(self, number, notes):
         self.name, self.notes = f"lib/{number}", notes
-        self.dice = random.Random(OPTIONS.seed * 1_000 + number)
+        self.dice, self.sizes = random.Random(OPTIONS.seed * 1_000 + number), SIZES
         self.received, self.blobs = {}, {}
         self.told = []
         self.tell()
@@ -52,7 +59,7 @@ class Story:
         self.told.append((os.path.getsize(self.notes), State(uploads, frozenset(self.blobs))))
 
     def content(self):
-        return self.dice.randbytes(self.dice.choice(SIZES))
+        return self.dice.randbytes(self.dice.choice(self.sizes))
 
     def target(self, where):
         return f"/v2/{self.name}/blobs/uploads/{where}"
@@ -62,6 +69,28 @@ class Story:
             self.dice.choice([self.open, self.store])(client)
         else:
             self.dice.choice([self.send, self.send, self.close, self.miss])(client)
+        self.tell()
+
+    def all_steps(self, client):
+        for _ in range(STEPS):
+            self.step(client)
+
+    def long_steps(self, client):
+        """An upload and a blob of long bodies."""
+        self.sizes = [LONG]
+        for step in (self.open, self.send, self.close, self.store):
+            step(client)
+            self.tell()
+
+    def wasteful_steps(self, client):
+        """A blob that another repository gets too, in a body that nothing needs, and an upload."""
+        self.sizes = [WASTE]
+        self.store(client)
+        (digest, content), = self.blobs.items()
+        equal("a second body", client.ask("POST", f"/v2/lib/other/blobs/uploads/?digest={digest}", content).status, 201)
+        self.sizes = SIZES
+        for step in (self.open, self.send):
+            step(client)
         self.tell()
 
     def open(self, client):
@@ -120,19 +149,18 @@ def served(folder, data, **variables):
     """A server on a data directory whose calls are noted."""
     notes = os.path.join(folder, f"notes-{len(os.listdir(folder))}")
     noted = shims.loaded(folder, "disks", DISK_FOLDER=data, DISK_NOTES=notes)
-    return Server(env=variables | noted | keeping(data)), notes
+    return Server(env=variables | noted | keeping(data), stderr=subprocess.DEVNULL), notes
 
 
-def told_stories(folder, data):
+def told_stories(folder, data, steps=Story.all_steps, clients=CLIENTS):
     """Serves the clients' requests, and gives their stories and the notes."""
     server, notes = served(folder, data, BLOBD_WORKERS=CLIENTS)
     with server:
-        stories = [Story(number, notes) for number in range(CLIENTS)]
+        stories = [Story(number, notes) for number in range(clients)]
 
         def tell(story):
             with server.client() as client:
-                for _ in range(STEPS):
-                    story.step(client)
+                steps(story, client)
 
         threads = [threading.Thread(target=tell, args=[story]) for story in stories]
         for thread in threads:
@@ -142,13 +170,30 @@ def told_stories(folder, data):
     return stories, list(disks.notes_in(notes))
 
 
-def after_start(server, stories, end):
-    """What is wrong with what a server has behind a cut."""
+def bodies_in(paths):
+    """What the bodies are that have a number, whichever that is."""
+    numbered = (content for path, content in paths.items() if path.startswith("bodies/") and content is not None)
+    return sorted(map(sha256, numbered))
+
+
+def left_over(data, allowed=None):
+    """What is in a data directory that a start or a compaction removes; the bodies are one of these lists, if they are
+    given."""
+    paths = disks.found(data)
+    new = [path for path in paths if path == "journal.new" or path.startswith("bodies/new/")]
+    if new or allowed is None or bodies_in(paths) in allowed:
+        return [f"{path} is left" for path in new]
+    return [f"{len(bodies_in(paths))} bodies are there, in place of {list(map(len, allowed))}, or others"]
+
+
+def after_start(server, data, stories, end, allowed=None):
+    """What is wrong with what a server has behind a cut, and with what is in its directory."""
     if not server.first_line.startswith("listening "):
         server.stop()
         return [f"it doesn't start: {server.first_line!r}"]
     with server, server.client() as client:
-        wrong = [
+        wrong = left_over(data, allowed)
+        wrong += [
             f"{story.name} has {found}, and may have {allowed}"
             for story in stories
             if (found := story.found(client)) not in (allowed := story.allowed(end))
@@ -161,10 +206,7 @@ def cut(stories, notes, number):
     """Cuts at a call, perhaps cuts the start behind that, and gives what is wrong then."""
     dice = random.Random(OPTIONS.seed * 1_000_000 + number)
     count = 1 + number % len(notes)
-    disk = disks.Disk()
-    for note in notes[:count]:
-        disk.play(note)
-    left = disk.left(dice)
+    left = disks.Disk().behind(notes[:count]).left(dice)
     if dice.random() < 0.3:
         left = cut_start(left, dice)
     wrong = started(left, stories, notes[count - 1].end)
@@ -177,7 +219,7 @@ def started(left, stories, end):
         data = os.path.join(folder, "data")
         disks.make(data, left)
         with open(os.path.join(folder, "told"), "w+", encoding="utf-8") as told:
-            wrong = after_start(Server(env=keeping(data), stderr=told), stories, end)
+            wrong = after_start(Server(env=keeping(data), stderr=told), data, stories, end)
             told.seek(0)
             text = f"{told.read()} {journal_in(left)} was left, {journal_in(disks.found(data))} is there"
             return [f"{line} {text}" for line in wrong]
@@ -197,13 +239,7 @@ def cut_start(left, dice):
         server, notes = served(folder, data)
         server.stop()
         calls = list(disks.notes_in(notes))
-    disk = disks.Disk()
-    for path, content in left.items():
-        disk.files[path] = None if content is None else disks.File(content)
-    disk.named = set(left)
-    for note in calls[: dice.randint(0, len(calls))]:
-        disk.play(note)
-    return disk.left(dice)
+    return disks.Disk.holding(left).behind(calls[: dice.randint(0, len(calls))]).left(dice)
 
 
 def memory():
@@ -215,23 +251,37 @@ def wrong_of(told):
     return cut(*told)
 
 
+def are_allowed(data, stories, notes, numbers):
+    """Cuts by numbers: each call has one of the first ones, and those behind them cut again with other dice."""
+    check("the notes tell all", disks.Disk().behind(notes).read() == disks.found(data))
+    with running.processes() as pool:
+        cuts = zip(itertools.repeat(stories), itertools.repeat(notes), numbers)
+        runs = pool.map(wrong_of, cuts, chunksize=20)
+        wrong = [line for lines in runs for line in lines]
+    check("what a cut leaves", not wrong, "\n    ".join(["", *wrong[:10]]))
+    syncs = sum(note.call == "sync" for note in notes)
+    print(f"{len(numbers)} cuts at {len(notes)} calls, {syncs} of them syncs")
+    return syncs
+
+
 @case("cc")
 def test_cuts(folder):
     data = os.path.join(folder, "data")
     stories, notes = told_stories(folder, data)
-    disk = disks.Disk()
-    for note in notes:
-        disk.play(note)
-    check("the notes tell all", disk.read() == disks.found(data))
-    syncs = sum(note.call == "sync" for note in notes)
+    syncs = are_allowed(data, stories, notes, range(OPTIONS.cuts))
     check("there are calls", syncs > STEPS, notes[:20])
-    # each call in turn, and then again with other dice
-    with running.processes() as pool:
-        cuts = zip(itertools.repeat(stories), itertools.repeat(notes), range(OPTIONS.cuts))
-        runs = pool.map(wrong_of, cuts, chunksize=20)
-        wrong = [line for lines in runs for line in lines]
-    check("what a cut leaves", not wrong, "\n    ".join(["", *wrong[:10]]))
-    print(f"{OPTIONS.cuts} cuts at {len(notes)} calls, {syncs} of them syncs")
+
+
+@case("cc")
+def cuts_of_long_bodies(folder):
+    """Bodies that are written and synced part by part are cut at each of their calls."""
+    data = os.path.join(folder, "data")
+    stories, notes = told_stories(folder, data, Story.long_steps, 1)
+    begun = [at for at, note in enumerate(notes) if note.call == "make" and note.path.startswith("bodies/new/")]
+    syncs = collections.Counter(note.path for note in notes if note.call == "sync")
+    check("each of three bodies has parts", [syncs[notes[at].path] > 2 for at in begun] == [True] * 3, syncs)
+    # what stands before are the calls of a first start
+    are_allowed(data, stories, notes, range(begun[0] - 1, len(notes)))
 
 
 def compacted(folder, data, keep):
@@ -266,58 +316,75 @@ def lines_for(stories):
     return "".join(lines), kept
 
 
-def cut_compaction(told):
-    """Cuts a compaction at a call, perhaps compacts what that leaves, and gives what is wrong then."""
-    stories, before, notes, count, keep = told
-    dice = random.Random(OPTIONS.seed * 1_000_000 + count)
-    disk = disks.Disk()
-    for path, content in before.items():
-        disk.files[path] = None if content is None else disks.File(content)
-    disk.named = set(before)
-    for note in notes[:count]:
-        disk.play(note)
-    with tempfile.TemporaryDirectory(dir=memory()) as folder:
-        data = os.path.join(folder, "data")
-        disks.make(data, disk.left(dice))
-        wrong = []
-        if dice.random() < 0.3:
-            (status, told, more), _ = compacted(folder, data, keep)
-            wrong = [] if status == 0 else [f"it isn't compacted again: {told!r} {more!r}"]
-        with open(os.path.join(folder, "told"), "w+", encoding="utf-8") as told:
-            wrong += after_start(Server(env=keeping(data), stderr=told), stories, END)
-            told.seek(0)
-            return [f"cut behind call {count} of {len(notes)}: {line} {told.read()}" for line in wrong]
+def bare_start(folder, data):
+    """Has a server start on a data directory, and gives the calls of that."""
+    server, notes = served(folder, data)
+    is_there = server.first_line.startswith("listening ")
+    return (0 if is_there else server.first_line, "", server.stop()), list(disks.notes_in(notes))
 
 
-def are_cut(folder, data, stories, keep):
-    """Compacts a data directory, with a list if there is one, and has that cut at each of its calls."""
-    before = disks.found(data)
-    (status, told, more), notes = compacted(folder, data, keep)
+class Compaction:
+    """One that is cut: what does it, what was there before, the calls, and the stories that are there behind it."""
+
+    def __init__(self, run, data, stories):
+        self.run, self.stories = run, stories
+        self.before, self.notes, self.allowed = disks.found(data), [], []
+
+    def behind(self, count):
+        """The disk as so many calls leave it."""
+        return disks.Disk.holding(self.before).behind(self.notes[:count])
+
+    def cut(self, count):
+        """Cuts it at a call, perhaps has what that leaves compacted again, and gives what is wrong then."""
+        dice = random.Random(OPTIONS.seed * 1_000_000 + count)
+        with tempfile.TemporaryDirectory(dir=memory()) as folder:
+            data = os.path.join(folder, "data")
+            disks.make(data, self.behind(count).left(dice))
+            wrong = self.again(folder, data) if dice.random() < 0.3 else []
+            with open(os.path.join(folder, "told"), "w+", encoding="utf-8") as told:
+                wrong += after_start(Server(env=keeping(data), stderr=told), data, self.stories, END, self.allowed)
+                told.seek(0)
+                return [f"cut behind call {count} of {len(self.notes)}: {line} {told.read()}" for line in wrong]
+
+    def again(self, folder, data):
+        (status, told, more), _ = self.run(folder, data)
+        return left_over(data, self.allowed) if status == 0 else [f"it isn't compacted again: {told!r} {more!r}"]
+
+
+# The one whose calls are cut by processes, which know it from this one.
+CUT = []
+
+
+def cut_compaction(count):
+    return CUT[-1].cut(count)
+
+
+def are_cut(folder, data, run, stories):
+    """Has a data directory compacted, and that cut at each of its calls."""
+    one = Compaction(run, data, stories)
+    (status, told, more), one.notes = run(folder, data)
     equal("a compaction", (status, more), (0, ""))
-    check("it says what went", told.startswith("compacted: "), told)
-    disk = disks.Disk()
-    for path, content in before.items():
-        disk.files[path] = None if content is None else disks.File(content)
-    for note in notes:
-        disk.play(note)
     after = disks.found(data)
-    check("the notes tell all of it", disk.read() == after)
+    check("the notes tell all of it", one.behind(len(one.notes)).read() == after)
+    one.allowed = [bodies_in(one.before), bodies_in(after)]
     check("it makes room", sum(len(content or b"") for content in after.values())
-          < sum(len(content or b"") for content in before.values()))
-    (again, _, more), _ = compacted(folder, data, keep)
+          < sum(len(content or b"") for content in one.before.values()))
+    (again, _, more), _ = run(folder, data)
     equal("a second one", (again, more, disks.found(data) == after), (0, "", True))
+    CUT.append(one)
     with running.processes() as pool:
-        cuts = [(stories, before, notes, count, keep) for count in range(1, len(notes) + 1)]
-        wrong = [line for lines in pool.map(cut_compaction, cuts, chunksize=8) for line in lines]
+        wrong = [line for lines in pool.map(cut_compaction, range(1, len(one.notes) + 1), chunksize=4) for line in lines]
     check("what a cut of a compaction leaves", not wrong, "\n    ".join(["", *wrong[:10]]))
-    print(f"{len(notes)} cuts of a compaction")
+    print(f"{len(one.notes)} cuts of a compaction")
+    return told
 
 
 @case("cc")
 def compactions(folder):
     data = os.path.join(folder, "data")
     stories, _ = told_stories(folder, data)
-    are_cut(folder, data, stories, None)
+    told = are_cut(folder, data, functools.partial(compacted, keep=None), stories)
+    check("it says what went", told.startswith("compacted: "), told)
 
 
 @case("cc")
@@ -327,7 +394,17 @@ def compactions_with_a_list(folder):
     # what was stored in this second is young
     time.sleep(1.1)
     keep, kept = lines_for(stories)
-    are_cut(folder, data, kept, keep)
+    told = are_cut(folder, data, functools.partial(compacted, keep=keep), kept)
+    check("it says what went", told.startswith("compacted: "), told)
+
+
+@case("cc")
+def starts_that_compact(folder):
+    """A start that compacts by itself is cut at each of its calls."""
+    data = os.path.join(folder, "data")
+    stories, _ = told_stories(folder, data, Story.wasteful_steps, 1)
+    are_cut(folder, data, bare_start, stories)
+    equal("how many bodies there are, and are left", list(map(len, CUT[-1].allowed)), [2, 1])
 
 
 if __name__ == "__main__":

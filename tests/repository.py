@@ -48,6 +48,10 @@ MOST_TRIED = 170
 USING = "docs/USING.md"
 SHOWN = re.compile(r"crates/embed_\w+/(src/\w+\.rt|specs/(?!Lib\.)\w+\.antt)")
 
+# The pages for users who know uploads, and no sessions: of those that aren't about the code.
+OF_UPLOADS = ("CHANGELOG.md", "docs/OPERATIONS.md", "docs/TROUBLES.md", USING)
+SESSION = re.compile(r"\bsessions?\b")
+
 # Settings of the C library's memory. A record of figures has those that they were measured with.
 TUNED = re.compile(r"glibc\.malloc\.hugetlb=[\w.:=]+")
 
@@ -76,7 +80,8 @@ NO_CLAUSE = {
         "tell_end",
         "tell_final",
         "tell_files",
-        "tell_removed",
+        "tell_repairs",
+        "mend_all",
         "Progress::begin",
         "Progress::end",
         "read_status",
@@ -85,7 +90,7 @@ NO_CLAUSE = {
         "look_at_journal",
         "refuse_cut",
         "has_bodies",
-        "is_there",
+        "length_of",
         "compact_data",
         "list_files",
         "amount_but",
@@ -434,6 +439,16 @@ def unshown(paths):
     ]
 
 
+def called_sessions(_):
+    """Lines of pages for users that call an upload a session, as the code and the proofs do."""
+    return [
+        f"{path}:{number}: {line.strip()}"
+        for path in OF_UPLOADS
+        for number, line in enumerate(text_of(path).splitlines(), 1)
+        if SESSION.search(line)
+    ]
+
+
 def disturbed(_):
     """Stored connections that the model answers otherwise, and rows that aren't those that are made of them."""
     found = [f"tests/connections/{stem}: the model answers otherwise" for stem in stored.unlike_the_model()]
@@ -481,6 +496,7 @@ CHECKS = [
     ("the program's crates are the program's alone", outside_the_program),
     ("the version is said once", unversioned),
     ("the page on using the crates shows its programs as they are", unshown),
+    ("pages for users call an upload an upload", called_sessions),
     ("the stored connections are what the tests of disturbed streams take", disturbed),
     ("the assertions of tests are the same in each crate", unlike_copies),
     ("the C library's memory is set the same everywhere", untuned),

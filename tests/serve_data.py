@@ -12,13 +12,13 @@ import re
 import shutil
 import socket
 import subprocess
-import threading
 import time
 
 from harness import TOP, shims
+from harness.pushers import Pusher, Told, close_some, held, look
 from harness.running import SERVED, USAGE, Repeated, Server, SmallDisk, ask_alone, pull, run
 from harness.suite import OPTIONS, case, check, equal, main, skip
-from harness.wire import Connection, demand, named, request_text, sha256, sha512
+from harness.wire import PATIENCE, request_text, sha256, sha512
 
 KIB, MIB = 1 << 10, 1 << 20
 NAME = "lib/a"
@@ -49,16 +49,11 @@ def serving_the_rest(path):
 
 def ended(server):
     """What else a server printed and its exit status, once it has ended: each of its workers does behind a request."""
-    while server.process.poll() is None:
+    end = time.monotonic() + PATIENCE
+    while server.process.poll() is None and time.monotonic() < end:
         with contextlib.suppress(OSError):
             ask_alone(server, "GET", "/v2/")
     return server.ended()
-
-
-def held(client, place):
-    """The status of an upload, and how many bytes it has received."""
-    reply = client.ask("GET", place)
-    return reply.status, reply.held() if reply.status == 204 else None
 
 
 def tree(path):
@@ -212,10 +207,10 @@ def before_it_is_opened(folder):
         equal("the next server", server.first_line[:10], "listening ")
 
 
-def is_refused(name, path, word, **more):
-    """Checks that a directory is refused, by this word, and left as it was."""
+def is_refused(name, path, word, options=(), **more):
+    """Checks that a directory is refused, by this word, and left as it was. The options are those of the process."""
     before = tree(path)
-    printed, status, told = run("serve", "127.0.0.1:0", env=variables(path, **more))
+    printed, status, told = run("serve", "127.0.0.1:0", env=variables(path, **more), **dict(options))
     is_told = told.startswith(f"blobd: can't use {path}: ") and word in told and told.count("\n") == 1
     check(name, (printed, status) == REFUSED and is_told, (printed, status, told))
     check(f"{name}: nothing is changed", tree(path) == before)
@@ -253,12 +248,37 @@ def no_directory(folder):
     os.mkdir(inner := os.path.join(folder, "taken"))
     os.mkdir(os.path.join(inner, "journal"))
     is_refused("a journal that is a folder", inner, "journal: not a file")
-    closed = os.path.join(folder, "closed")
-    os.mkdir(closed, 0o500)
-    if os.access(closed, os.W_OK):
-        skip("a folder that may not be written", "this user may write any folder")
-    else:
-        is_refused("a folder that may not be written", closed, "no leave to read and write it; give it and all")
+
+
+def heed_modes():
+    """In a program that is started: files' modes count for root too."""
+    for capability in (DAC_OVERRIDE, DAC_READ_SEARCH):
+        ctypes.CDLL(None).prctl(DROP_CAPABILITY, capability, 0, 0, 0)
+
+
+@case()
+def no_leave(folder):
+    """A folder that may not be written is refused, a new one as one with a journal, and one of another user. Once there
+    is leave, all is there."""
+    path, plain = os.path.join(folder, "data"), os.path.join(folder, "plain")
+    filled(path)
+    os.mkdir(plain)
+    for name, closed, directory, mode in [
+        ("an empty folder", plain, plain, 0o500),
+        ("a folder in which nothing may be made", plain, os.path.join(plain, "inner"), 0o500),
+        ("a folder with a journal that may not be looked at", path, path, 0),
+        ("a journal that may only be read", f"{path}/journal", path, 0o400),
+    ]:
+        was = os.stat(closed).st_mode
+        os.chmod(closed, mode)
+        is_refused(name, directory, "no leave to read and write it; give it and all", {"preexec_fn": heed_modes})
+        os.chmod(closed, was)
+    if os.geteuid() == 0:
+        os.chown(path, 65534, 65534)
+        is_refused("a folder of another user", path, "no leave to read and write it", {"preexec_fn": heed_modes})
+        os.chown(path, 0, 0)
+    with serving(path) as server:
+        equal("all is there", [pull(server, NAME, sha256(content)) for content in FILLED], FILLED)
 
 
 @case()
@@ -344,12 +364,6 @@ def strict_or_not(folder):
             equal("a folder that isn't damaged", [server.first_line[:10], named_losses(server)], ["listening ", []])
 
 
-def heed_modes():
-    """In a program that is started: files' modes count for root too."""
-    for capability in (DAC_OVERRIDE, DAC_READ_SEARCH):
-        ctypes.CDLL(None).prctl(DROP_CAPABILITY, capability, 0, 0, 0)
-
-
 @case()
 def bodies_of_another_user(folder):
     """One that may not be read is named as damage, with what the system says. Once it may be it is there again."""
@@ -376,9 +390,9 @@ def other_directories(folder):
     journal = f"{folder}/bad/journal"
     cases = [
         ("no journal at all", lambda: changed(journal, b"journal\n", b"JOURNAL\n"), "no server has written it"),
-        ("another format", lambda: changed(journal, b"journal\n\0\0\0\0\0\0\0\1", b"journal\n\0\0\0\0\0\0\0\2"),
+        ("another format", lambda: changed(journal, b"journal\n\0\0\0\0\0\0\0\2", b"journal\n\0\0\0\0\0\0\0\3"),
          "the format of another version"),
-        ("another version", lambda: changed(journal, b"uploads\n\0\0\0\0\0\0\0\1", b"uploads\n\0\0\0\0\0\0\0\2"),
+        ("another version", lambda: changed(journal, b"uploads\n\0\0\0\0\0\0\0\2", b"uploads\n\0\0\0\0\0\0\0\3"),
          "another version has written it"),
         ("other limits", lambda: changed(journal, LIMIT, LIMIT[::-1]),
          "other limits"),
@@ -427,7 +441,7 @@ def damaged_directories(folder):
     large = [CONTENTS[-2]]
     cases = [
         ("a small body with a byte changed", lambda: changed(f"{bad}/journal", b"two", b"twp"), [b"two"],
-         "its answer comes out otherwise"),
+         "its text has changed"),
         ("a body that is gone", lambda: os.remove(f"{bad}/{body}"), large, "isn't there"),
         ("a body that was cut", lambda: os.truncate(f"{bad}/{body}", 70), large, "has another length"),
         ("a body with a byte changed", lambda: changed(f"{bad}/{body}", CONTENTS[-2][:16], bytes(16)), large,
@@ -473,7 +487,7 @@ def what_is_told_behind_losses_is_there(folder):
         with serving_the_rest(path) as server, server.client() as client:
             told = named_losses(server)
             check("the chunk is named", len(told) == 1 and told[0].endswith(
-                f"its answer comes out otherwise; lost: upload 16777217 of {NAME}, up to byte 7\n"), told)
+                f"its text has changed; lost: upload 16777217 of {NAME}, up to byte 7\n"), told)
             equal("what hung on the chunk", held(client, first), (204, 0))
             equal("what was opened behind it", [held(client, other) for other in uploads], [(204, 0)] * len(uploads))
             if sent is None:
@@ -517,13 +531,30 @@ def flipped(path, at, bit):
         file.write(bytes([byte ^ 1 << bit]))
 
 
+# the head of a batch: four numbers
+HEAD_LEN = 32
+
+
+def number_at(journal, at):
+    """A number of eight bytes."""
+    return int.from_bytes(journal[at : at + 8], "big")
+
+
+def gates_of(journal):
+    """Where the open gates of a journal stand. Behind the sector of each is its batch: its head, of which the third
+    number is the length of its records, and those."""
+    at, found = SECTOR, []
+    while journal[at] == 1:
+        found.append(at)
+        at += SECTOR + -(-(HEAD_LEN + number_at(journal, at + SECTOR + 16)) // SECTOR) * SECTOR
+    return found
+
+
 def first_records(journal):
-    """Where the bytes of the first record of each batch are. A batch begins in a sector of its own, and its record behind
-    32 bytes, of which the last eight are the record's length. No byte of a gate's sector is zero."""
-    for at in range(SECTOR, len(journal), SECTOR):
-        sector = journal[at : at + SECTOR]
-        if any(sector) and 0 in sector:
-            yield range(at + 32, at + 32 + int.from_bytes(sector[24:32], "big"))
+    """Where the bytes of the first record of each batch are, which begins with eight bytes of its length."""
+    for gate in gates_of(journal):
+        at = gate + SECTOR + HEAD_LEN
+        yield range(at + 8, at + 8 + number_at(journal, at))
 
 
 @case()
@@ -547,18 +578,39 @@ def damaged_journal(folder):
         shutil.rmtree(bad)
 
 
+def spoiled_by(journal, at, place):
+    """What the record has to do with in which a byte is: the digests of `FILLED`, and the place of an upload."""
+    (record,) = [one for one in first_records(journal) if at in one]
+    texts = {sha256(content): sha256(content) for content in FILLED} | {place: place.rpartition("/")[2]}
+    return {what for what, text in texts.items() if text.encode() in journal[record.start : record.stop]}
+
+
+def isnt_there(server, client, place):
+    """What a server on a directory that was `filled` lacks: digests, and the place of the upload. A blob with other bytes
+    than were stored fails a check."""
+    pulled = {sha256(content): pull(server, NAME, sha256(content)) for content in FILLED}
+    wrong = [digest for content, (digest, got) in zip(FILLED, pulled.items()) if got not in (content, 404)]
+    check("no wrong byte", not wrong, wrong)
+    missing = {digest for digest, got in pulled.items() if got == 404}
+    return missing if held(client, place) == (204, 7) else missing | {place}
+
+
+def is_named(what, lines):
+    """Whether a line says that this is lost. The upload is the first one."""
+    return any((f"upload 1 of {NAME}" if what.startswith("/") else what) in line for line in lines)
+
+
 @case()
 def damaged_anywhere(folder):
-    """Whatever bit of a body or of a record is changed: what is lost is named, no wrong byte is handed out, and what is
-    pushed from then on survives a kill. If it is to be strict, what is lost keeps it from starting."""
+    """Whatever bit of a body or of a record is changed: it is found, what is lost is named and nothing else is, no wrong
+    byte is handed out, and what is pushed from then on survives a kill. If it is to be strict, the server doesn't start."""
     good, bad = os.path.join(folder, "good"), os.path.join(folder, "bad")
-    body = os.path.relpath(filled(good)[0], good)
+    body, upload = filled(good)
+    body = os.path.relpath(body, good)
     with open(f"{good}/journal", "rb") as file:
         journal = file.read()
-    # a name that becomes another name isn't found
-    names = {at + i for at in range(len(journal)) if journal.startswith(NAME.encode(), at) for i in range(len(NAME))}
-    records = [at for record in first_records(journal) for at in record if at not in names]
-    chance, kinds = random.Random(OPTIONS.seed), {"named": 0, "none": 0}
+    records = [at for record in first_records(journal) for at in record]
+    chance = random.Random(OPTIONS.seed)
     for turn in range(60):
         file, at = ("journal", chance.choice(records)) if turn % 4 else (body, chance.randrange(len(CONTENTS[-2])))
         shutil.copytree(good, bad)
@@ -568,21 +620,17 @@ def damaged_anywhere(folder):
             is_strict = server.first_line == REFUSED[0]
         for pushed in ([], [b"more"]):
             with serving_the_rest(bad) as server, server.client() as client:
-                lines = named_losses(server)
-                pulled = [pull(server, NAME, sha256(content)) for content in FILLED]
-                check("no wrong byte", all(map(lambda got, content: got in (content, 404), pulled, FILLED)), place)
-                check("what is lost is named", lines or pulled == FILLED, (place, pulled))
-                equal("whether it starts if it is to be strict", (place, is_strict), (place, bool(lines)))
+                lines, missing = named_losses(server), isnt_there(server, client, upload)
+                named = {what for what in [*map(sha256, FILLED), upload] if is_named(what, lines)}
+                check("what has changed is found", lines, place)
+                check("what is named is lost", named <= missing, (place, lines, missing))
+                # a line of the record that was changed may not say what it held
+                spoiled = spoiled_by(journal, at, upload) if file == "journal" else set()
+                check("what is lost is named", missing <= named | spoiled, (place, lines, missing))
+                check("it doesn't start if it is to be strict", is_strict, place)
                 equal("what was pushed behind it", [pull(server, NAME, sha256(content)) for content in pushed], pushed)
                 equal("a push", client.push(NAME, b"more")[-1], 201)
-        kinds["named" if lines else "none"] += 1
         shutil.rmtree(bad)
-    check("some bits were a loss", kinds["named"] > 20, kinds)
-
-
-def gates_of(journal):
-    """Where the open gates of a journal stand: one has no zero byte, and begins with a one."""
-    return [at for at in range(SECTOR, len(journal), SECTOR) if journal[at] == 1 and 0 not in journal[at : at + SECTOR]]
 
 
 def zeroed(path, first, last):
@@ -599,19 +647,19 @@ def bodies_of(path):
 
 MISSING = "damage in {0}: journal: records are missing at its end: "
 WENT_ON = (
-    "{0}: an earlier start went on without records that were missing, or the length of a record was damaged; "
-    "no file is removed before `blobd compact {0}`\n"
+    "{0}: an earlier start went on without records that were missing; no file is removed before `blobd compact {0}`\n"
 )
 # what `blobd status` says of the end of a journal that is looked at
 AT_THE_END = (
     "blobd: " + MISSING + "it is damaged or cut there, or a copy that was made while a server wrote; "
-    "a start goes on without them\n"
+    "a start goes on without what it can't mend\n"
 )
+MENDED = "blobd: damage in {0}: journal: 1 damaged sector mended, so that what stands there is read again\n"
 
 
 def goes_for_good(path, told):
     """How many files a compaction says to remove for good, behind what else is told."""
-    begin = f"blobd: {path}: records are missing, and a compaction makes that final: "
+    begin = f"blobd: {path}: records may be missing, and a compaction makes that final: "
     last = told.removeprefix(begin)
     found = re.fullmatch(rf"(\d+) files?, {SIZE}, go that no record names\n", last)
     return int(found.group(1)) if found else 0 if not told else told
@@ -690,11 +738,15 @@ def broken_ends(folder):
     journal, fewest = f"{bad}/journal", set()
     for left, at in enumerate(gates):
         head, is_last = at + SECTOR, left == len(gates) - 1
+
+        def gate_and_head():
+            flipped(journal, at, chance.randrange(8))
+            flipped(journal, head + chance.randrange(8), chance.randrange(8))
+
         kinds = [
-            ("a number", lambda: flipped(journal, head + chance.randrange(8), chance.randrange(8))),
-            ("a length", lambda: flipped(journal, head + 16 + chance.randrange(5), chance.randrange(8))),
             ("a journal that is cut", lambda: os.truncate(journal, head + chance.randrange(SECTOR))),
-            *([("a gate", lambda: flipped(journal, at, chance.randrange(8))),
+            *([("a gate and its head", gate_and_head),
+               ("a gate of zeros", lambda: zeroed(journal, at, head)),
                ("zeros", lambda: zeroed(journal, at, gates[-1]))] if not is_last else []),
         ]
         # a change for each gate, and all at one in the middle and at the last one
@@ -704,6 +756,80 @@ def broken_ends(folder):
             fewest.add(goes_on_without(f"{name} at gate {left}", bad, contents))
             shutil.rmtree(bad)
     check("all, but for the last one, and none", 0 in fewest and max(fewest) < len(contents), fewest)
+
+
+def comes_back(name, path, contents, is_told=True):
+    """Checks that a directory of whose journal one sector is damaged, between records, is refused if it is to be strict, and
+    not compacted; and that a start brings all back, says so, and is the last that does. Of the last gate nobody can tell
+    whether it was being opened, so no start is refused for that."""
+    is_looked_at(name, path, AT_THE_END if is_told else "", "at the end" if is_told else None)
+    if is_told:
+        is_refused(f"{name}: a strict start", path, "; put the journal back, or start without BLOBD_STRICT")
+        before = tree(path)
+        told, status, more_told = run("compact", path)
+        check(f"{name}: it isn't compacted", (told, status) == REFUSED and "records are missing" in more_told, more_told)
+        check(f"{name}: a compaction that is refused changes nothing", tree(path) == before)
+    with serving_the_rest(path) as server, server.client() as client:
+        equal(f"{name}: it is told", server.told(5), MENDED.format(path))
+        equal(f"{name}: what is there", [pull(server, NAME, sha256(content)) for content in contents], contents)
+        equal(f"{name}: a push", client.push(NAME, b"more")[-1], 201)
+    is_looked_at(f"{name}: behind a start", path, "", None)
+    with serving(path) as server:
+        told = server.told(5)
+        check(f"{name}: nothing is said any more", HOLDS.fullmatch(told), told)
+        kept = [pull(server, NAME, sha256(content)) for content in [*contents, b"more"]]
+        equal(f"{name}: what a strict start has", kept, [*contents, b"more"])
+
+
+@case()
+def damaged_sectors(folder):
+    """A bit of the first byte of a gate is changed, or one of the head of a batch: all comes back. One of the copy of a head
+    that a gate has is no damage by itself."""
+    good, bad = os.path.join(folder, "good"), os.path.join(folder, "bad")
+    chance, journal = random.Random(OPTIONS.seed), f"{bad}/journal"
+    contents = [chance.randbytes(size) for size in (3, LARGEST_IN_JOURNAL + 1, 5_000, 4)]
+    with serving(good) as server, server.client() as client:
+        equal("pushes", [client.push(NAME, content)[-1] for content in contents], [201] * len(contents))
+    with open(f"{good}/journal", "rb") as file:
+        gates = gates_of(file.read())
+    for at in gates:
+        head = at + SECTOR
+        kinds = [
+            ("a head", lambda: flipped(journal, head + chance.randrange(HEAD_LEN), chance.randrange(8))),
+            ("a length", lambda: flipped(journal, head + 16 + chance.randrange(8), chance.randrange(8))),
+            ("a gate", lambda: flipped(journal, at, chance.randrange(8))),
+        ]
+        shutil.copytree(good, bad)
+        flipped(journal, at + 1 + chance.randrange(HEAD_LEN), chance.randrange(8))
+        is_looked_at(f"a copy at {at}", bad, "", None)
+        with serving(bad) as server:
+            check("a copy that has changed", HOLDS.fullmatch(told := server.told(5)), told)
+            equal("what is there", [pull(server, NAME, sha256(content)) for content in contents], contents)
+        shutil.rmtree(bad)
+        for name, spoil in kinds:
+            shutil.copytree(good, bad)
+            spoil()
+            comes_back(f"{name} at {at}", bad, contents, name != "a gate" or at != gates[-1])
+            shutil.rmtree(bad)
+
+
+@case()
+def compacted_with_a_damaged_gate(folder):
+    """Of the last gate nobody can tell whether it was being opened. So a compaction mends it first, as a start does: the
+    records behind it stay, and their bodies."""
+    path = os.path.join(folder, "data")
+    contents = [bytes([turn]) * (LARGEST_IN_JOURNAL + 1) for turn in range(3)]
+    with serving(path) as server, server.client() as client:
+        for content in [b"a", *contents]:
+            equal("a push", [client.push(NAME, content)[-1] for _ in range(2)], [201, 201])
+    with open(f"{path}/journal", "rb") as file:
+        last = gates_of(file.read())[-1]
+    zeroed(f"{path}/journal", last, last + 1)
+    told, status, more_told = run("compact", path)
+    equal("a compaction", (status, more_told), (0, MENDED.format(path)))
+    check("it makes the journal shorter", "records became" in told, told)
+    with serving(path) as server:
+        equal("what is there", [pull(server, NAME, sha256(content)) for content in [b"a", *contents]], [b"a", *contents])
 
 
 @case()
@@ -767,155 +893,31 @@ def idle_hour(folder):
               [[(204, 0), (204, 1)], [(404, None), (204, 1)]])
 
 
-class Told:
-    """What clients of a server were told, and what they had begun as it was killed."""
-
-    def __init__(self):
-        self.lock = threading.Lock()
-        # which contents repositories have, and the offset that each open upload was told, and would have next
-        self.stored, self.uploads = {}, {}
-        # uploads that were being closed: the repository and the content
-        self.closing = {}
-        self.count = 0
+CLIENTS = 8
 
 
-class Pusher:
-    """A client that opens, sends, closes, mounts and pulls, as chance has it, and notes what it is told."""
-
-    def __init__(self, server, told, seed):
-        self.told, self.chance = told, random.Random(seed)
-        self.connection, self.name = Connection(server.place()), f"lib/{seed % 4}"
-
-    def ask(self, method, target, body=b"", **fields):
-        """The reply. Nothing comes once the server is gone."""
-        self.connection.send(request_text(method, target, body, named(fields)))
-        return self.connection.hear(method)
-
-    def content(self, most):
-        return self.chance.randbytes(self.chance.choice((0, 1, 700, 9_000, 70_000, most)))
-
-    def turn(self):
-        """Does one thing, or nothing for a moment once the server is gone."""
-        if not self.chance.choice((self.whole, self.whole, self.upload, self.upload, self.mount))():
-            time.sleep(0.01)
-
-    def whole(self):
-        content = self.content(200_000)
-        reply = self.ask("POST", f"/v2/{self.name}/blobs/uploads/?digest={sha256(content)}", content)
-        return reply is not None and self.keep(reply, content)
-
-    def keep(self, reply, content):
-        demand(reply.status == 201, "a blob", reply)
-        with self.told.lock:
-            self.told.stored[self.name, sha256(content)] = content
-            self.told.count += 1
-        return True
-
-    def mount(self):
-        with self.told.lock:
-            if not self.told.stored:
-                return True
-            (name, digest), content = self.chance.choice(list(self.told.stored.items()))
-        reply = self.ask("POST", f"/v2/{self.name}/blobs/uploads/?mount={digest}&from={name}")
-        return reply is not None and self.keep(reply, content)
-
-    def upload(self):
-        reply = self.ask("POST", f"/v2/{self.name}/blobs/uploads/")
-        if reply is None:
-            return False
-        demand(reply.status == 202, "an opening", reply)
-        return self.go_on(reply.fields["Location"], b"")
-
-    def go_on(self, place, content):
-        for _ in range(self.chance.randrange(5)):
-            chunk = self.content(150_000)
-            self.note(place, len(content), len(content) + len(chunk), content + chunk)
-            reply = self.ask("PATCH", place, chunk)
-            if reply is None:
-                return False
-            demand(reply.status == 202, "a chunk", reply)
-            content += chunk
-            self.note(place, len(content), len(content), content)
-        if self.chance.random() < 0.3:
-            # it stays open
-            self.note(place, len(content), len(content), content)
-            return True
-        with self.told.lock:
-            self.told.uploads.pop(place, None)
-            self.told.closing[place] = self.name, content
-        reply = self.ask("PUT", f"{place}?digest={sha256(content)}")
-        if reply is None:
-            return False
-        with self.told.lock:
-            del self.told.closing[place]
-        return self.keep(reply, content)
-
-    def note(self, place, told, next_, content):
-        with self.told.lock:
-            self.told.uploads[place] = told, next_, content
-
-
-def look(server, told, chance):
-    """Checks what a server has that was killed before, and notes what became of what was under way. Of the blobs that
-    were looked at before, some are looked at again."""
-    with server.client() as client:
-        wrong = []
-        stored = list(told.stored.items())
-        for (name, digest), content in stored[-400:] + chance.sample(stored, min(100, len(stored))):
-            reply = client.ask("GET", f"/v2/{name}/blobs/{digest}")
-            if (reply.status, reply.body) != (200, content):
-                wrong.append((name, digest, reply.status))
-        check("what was answered 201", not wrong, wrong[:3])
-        wrong = []
-        for place, (offset, next_, content) in list(told.uploads.items()):
-            status, has = held(client, place)
-            if status != 204 or has not in (offset, next_):
-                wrong.append((place, status, has, (offset, next_)))
-            else:
-                told.uploads[place] = has, has, content[:has]
-        check("the uploads", not wrong, wrong[:3])
-        wrong = []
-        for place, (name, content) in told.closing.items():
-            status, has = held(client, place)
-            blob = client.ask("GET", f"/v2/{name}/blobs/{sha256(content)}")
-            if status == 404 and (blob.status, blob.body) == (200, content):
-                told.stored[name, sha256(content)] = content
-            elif (status, has) == (204, len(content)):
-                told.uploads[place] = has, has, content
-            else:
-                wrong.append((place, status, has, len(content), blob.status))
-        check("the uploads that were being closed", not wrong, wrong[:3])
-        told.closing.clear()
-
-
-def close_some(server, told):
-    """Goes on with some of the uploads that are open, up to their ends: the service has room for no more than 1,024."""
-    with server.client() as client:
-        for place, (offset, _, content) in list(told.uploads.items())[:-200]:
-            reply = client.ask("PUT", f"{place}?digest={sha256(content[:offset])}")
-            check("the close of an upload that a kill left", reply.status == 201, reply)
-            told.stored[place.split("/blobs/")[0][4:], sha256(content[:offset])] = content[:offset]
-            del told.uploads[place]
+def killed_starts(path, chance):
+    """Begins some servers on a directory, and kills each as it starts."""
+    for _ in range(chance.randrange(3)):
+        words = [OPTIONS.program, "serve", "127.0.0.1:0"]
+        with subprocess.Popen(words, env=os.environ | variables(path), stdout=subprocess.DEVNULL) as process:
+            time.sleep(chance.choice((0, 0.001, 0.01, 0.05)))
+            process.kill()
 
 
 @case()
 def killed_at_random(folder):
-    """Killed again and again under six clients, and within starts: all that anybody was told is there, each upload has
-    the offset that its client was told or one chunk more, and every byte is right."""
+    """Killed again and again under eight clients, and within starts: all that anybody was told is there, each upload has
+    the offset that its client was told or one chunk more, and goes on there, and every byte is right."""
     path, told, chance = os.path.join(folder, "data"), Told(), random.Random(OPTIONS.seed)
     end, kills = time.monotonic() + OPTIONS.seconds, 0
-    while time.monotonic() < end:
-        for _ in range(chance.randrange(3)):
-            # killed as it starts
-            words = [OPTIONS.program, "serve", "127.0.0.1:0"]
-            with subprocess.Popen(words, env=os.environ | variables(path), stdout=subprocess.DEVNULL) as process:
-                time.sleep(chance.choice((0, 0.001, 0.01, 0.05)))
-                process.kill()
-        with serving(path, env={"BLOBD_WORKERS": 6}) as server:
+    while kills < OPTIONS.kills or time.monotonic() < end:
+        killed_starts(path, chance)
+        with serving(path, env={"BLOBD_WORKERS": CLIENTS}) as server:
             equal("a start behind a kill", server.first_line[:10], "listening ")
             look(server, told, chance)
             close_some(server, told)
-            clients = [Pusher(server, told, chance.randrange(1 << 32)) for _ in range(6)]
+            clients = [Pusher(server, told, chance.randrange(1 << 32)) for _ in range(CLIENTS)]
             pushers = Repeated([one.turn for one in clients])
             time.sleep(chance.choice((0.05, 0.2, 0.5, 1.5)))
             server.process.kill()
@@ -925,14 +927,20 @@ def killed_at_random(folder):
         look(server, told, chance)
         wrong = [key for key, content in told.stored.items() if pull(server, *key) != content]
         check("all that was ever answered 201", not wrong, wrong[:3])
-    check("there were kills", kills > 1 and told.count > 50, (kills, told.count))
+    lacking = {"whole", "upload", "mount", "resume", "pull", "behind a kill"} - told.done.keys()
+    check("there was each of what clients do", not lacking and len(told.stored) > 50, told.done)
+    print(f"{kills} kills, {len(told.stored)} blobs, {dict(told.done)}")
 
 
-def fill(client, told, chance):
-    """Uploads blobs, smaller ones each time that one is answered otherwise than 201, until not even a short one is. Gives
-    the last statuses."""
+# Those of blobs that fill a disk, or a memory.
+SIZES = 20 * MIB, MIB, 100_000, 20_000, 200
+
+
+def fill(client, told, chance, sizes=SIZES):
+    """Uploads blobs of the first size until one is answered otherwise than 201, then of the next, and so on. Gives the last
+    statuses."""
     statuses = []
-    for size in (20 * MIB, MIB, 100_000, 20_000, 200):
+    for size in sizes:
         status = 201
         while status == 201:
             content = chance.randbytes(size)
@@ -1068,4 +1076,4 @@ def copied_while_it_serves(folder):
 
 
 if __name__ == "__main__":
-    main(__doc__, seconds=(25, "seconds of kills"), seed=(1, "of the kills"))
+    main(__doc__, seconds=(25, "seconds of kills"), kills=(10, "kills at least"), seed=(1, "of the kills"))

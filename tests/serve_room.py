@@ -96,6 +96,15 @@ def until(wanted, ask):
     return statuses
 
 
+def posted_alone(server, content):
+    """The status of a POST over a connection of its own, or why it has none."""
+    with server.client() as client:
+        try:
+            return post(client, content)
+        except OSError as error:
+            return error
+
+
 @case()
 def room_comes_back():
     """What an upload or a body takes comes back with it: as often as one that fits is begun and cut, a blob of the same
@@ -107,9 +116,9 @@ def room_comes_back():
             with server.client() as client:
                 client.send(f"POST /v2/{NAME}/blobs/uploads/?digest={sha256(content)} HTTP/1.1\r\nHost: h\r\n"
                             f"Content-Length: {len(content)}\r\n\r\n".encode() + content[: chance.randrange(8 * MIB)])
+        # a worker may take a while to see that its connection was cut; until then there is no room, and no reply
+        equal("one that is whole", until(201, lambda: posted_alone(server, content))[-1], 201)
         with server.client() as client:
-            # a worker may take a while to see that its connection was cut
-            equal("one that is whole", until(201, lambda: post(client, content))[-1], 201)
             equal("the same again, which replaces it", post(client, content[: 3 * MIB]), 201)
 
 
@@ -179,6 +188,25 @@ def less_than_a_blob_takes():
             equal(f"BLOBD_MEMORY={value}", server.told(0.2), few.format(said) if said else "")
 
 
+def contents(path):
+    """What is in a folder: the bytes of each file by its name, and None by that of a folder."""
+    found = {}
+    for folder, folders, names in os.walk(path):
+        found |= {os.path.join(folder, name): None for name in folders}
+        for name in names:
+            with open(os.path.join(folder, name), "rb") as file:
+                found[os.path.join(folder, name)] = file.read()
+    return found
+
+
+def refused(path, memory, strict="0"):
+    """What a start says that may hold so much, and can't use the directory."""
+    env = {"BLOBD_DATA": path, "BLOBD_MEMORY": memory, "BLOBD_STRICT": strict}
+    printed, status, told = run("serve", "127.0.0.1:0", env=env)
+    equal("what it prints", (printed, status), ("fault: data\n", 3))
+    return told
+
+
 @case()
 def smaller_than_a_directory(folder):
     """A directory that holds more than the server may is left as it is, and says so. With more room all is there."""
@@ -186,16 +214,55 @@ def smaller_than_a_directory(folder):
     path = os.path.join(folder, "data")
     with serving(BLOBD_DATA=path) as server, server.client() as client:
         stored = filled(client, chance, (1_000, 200_000, 500_000))
+    # a start that reads the directory removes it
+    unnamed = os.path.join(path, "bodies", "00", "1048576")
+    os.makedirs(os.path.dirname(unnamed), mode=0o700, exist_ok=True)
+    with open(unnamed, "wb") as file:
+        file.write(b"unnamed")
+    before = contents(path)
+    size = sum(map(len, stored)) * 10 // MIB / 10
     for strict in "01":
-        printed, status, told = run("serve", "127.0.0.1:0", env={
-            "BLOBD_DATA": path, "BLOBD_MEMORY": "6M", "BLOBD_STRICT": strict})
-        equal("what it prints", (printed, status), ("fault: data\n", 3))
-        first = re.match(rf"blobd: can't use {path}: it holds \S+ MiB, a server may hold 6\.0 MiB: ", told)
-        check("why, in the first line", first and "no memory for it" in told and told.count("\n") == 1, told)
+        equal("why", refused(path, "6M", strict),
+              f"blobd: can't use {path}: it holds {size} MiB, BLOBD_MEMORY is 6.0 MiB: set BLOBD_MEMORY to more\n")
+        check("nothing in it is changed", contents(path) == before)
     with serving(room="16M", BLOBD_DATA=path) as server:
         has_all(server, stored)
         equal("one more", ask_alone(
             server, "POST", f"/v2/{NAME}/blobs/uploads/?digest={sha256(b'more')}", b"more").status, 201)
+        check("with more room it is read", not os.path.exists(unnamed))
+
+
+@case()
+def smaller_than_a_damaged_directory(folder):
+    """One that is damaged is read up to where there is no room: maybe what is left of it fits."""
+    chance = random.Random(OPTIONS.seed)
+    path = os.path.join(folder, "data")
+    with serving(BLOBD_DATA=path) as server, server.client() as client:
+        stored = filled(client, chance, (500_000,))
+    bodies = [name for name, body in contents(path).items() if body and os.path.basename(name) != "journal"]
+    os.remove(bodies[0])
+    told = refused(path, "6M")
+    first = re.match(rf"blobd: can't use {path}: it holds \S+ MiB, BLOBD_MEMORY is 6\.0 MiB: set .* to more; ", told)
+    check("why, in the first line", first and "no memory for it" in told and told.count("\n") == 1, told)
+    for body in bodies[12:]:
+        os.remove(body)
+    with serving(room="6M", BLOBD_DATA=path) as server:
+        left = [content for content in stored if pull(server, NAME, sha256(content)) == content]
+        equal("what is left of it", len(left), 11)
+
+
+@case()
+def a_start_takes_more_than_its_blobs(folder):
+    """Then a compaction is named too."""
+    chance = random.Random(OPTIONS.seed)
+    path = os.path.join(folder, "data")
+    with serving(BLOBD_DATA=path) as server, server.client() as client:
+        for _ in range(1_500):
+            equal("a small blob", post(client, chance.randbytes(100)), 201)
+    told = refused(path, "512K")
+    first = f"blobd: can't use {path}: it holds 146.4 KiB, BLOBD_MEMORY is 512.0 KiB, and a start takes more: "
+    check("why, in the first line", told.startswith(f"{first}`blobd compact {path}` may help, or set") and told.endswith(
+        "no memory for it\n"), told)
 
 
 @case("cc")

@@ -267,44 +267,49 @@ def files_that_nothing_names(folder):
 
 @case()
 def files_in_doubt(folder):
-    """Behind a damaged record, gate or head a file may be that of a record that isn't read: all files stay."""
+    """Behind a damaged record a file may be that of a record that isn't read, and so behind a gate and a head that are both
+    damaged: all files stay."""
     good, path, kept = os.path.join(folder, "good"), os.path.join(folder, "data"), [bytes([i]) * 100_000 for i in range(3)]
     filled(good, kept)
+    # a batch is one record without its body: it takes a gate's sector, and one of its own
+    gates, head = [SECTOR + 2 * SECTOR * i for i in range(3)], SECTOR + 7
     with open(f"{good}/journal", "rb") as file:
         journal = file.read()
-    gates = [at for at in range(0, len(journal), SECTOR) if journal[at : at + SECTOR] == b"\1" * SECTOR]
-    equal("the gates", len(gates), 3)
+    equal("the gates", [journal[at] for at in gates], [1, 1, 1])
     stray, other = "bodies/07/7", "bodies/ff/4095"
-    for name, at, byte in [("a gate", gates[1], 0x41), ("the last gate", gates[2], 0x81), ("the gates stay", None, 0),
-                           ("a head", gates[1] + SECTOR + 7, 77), ("a record", gates[2] + SECTOR + 32, 99)]:
+    for name, changes, stay in [
+        ("nothing", {}, False), ("a gate", {gates[1]: 0x41}, False), ("a head", {gates[1] + head: 77}, False),
+        ("both", {gates[1]: 0x41, gates[1] + head: 77}, True), ("the last gate", {gates[2]: 0x81}, False),
+        ("the last gate and its copy of the head", {gates[2]: 0x81, gates[2] + 8: 77}, True),
+        ("a record", {gates[2] + SECTOR + 32: 99}, True),
+    ]:
         shutil.copytree(good, path)
         for file in (stray, other):
             with open(os.path.join(path, file), "wb") as made:
                 made.write(b"what nothing names")
-        if at is not None:
+        for at, byte in changes.items():
             changed(f"{path}/journal", at, byte)
         before = bodies(path)
-        # a start gives up what is behind a gate that stands open and has no batch: only the first one is in doubt
-        for _ in range(1 if name == "a head" else 2):
+        for _ in range(2):
             with serving(path, env={"BLOBD_STRICT": "0"}) as server:
                 equal(f"{name}: it serves", server.first_line[:10], "listening ")
-                if at is None:
-                    equal("files that nothing names are gone", len(bodies(path)), 3)
-                else:
+                if stay:
                     check(f"{name}: all files stay", bodies(path) == before, sorted(set(bodies(path)) ^ set(before)))
+                else:
+                    equal(f"{name}: files that nothing names are gone", len(bodies(path)), 3)
         shutil.rmtree(path)
 
 
 @case()
 def a_line_a_minute(folder):
-    """With a log, a line says what the service holds, if that has changed, and a minute has passed since the last one:
-    with a data directory and without one."""
+    """With a log, a line says what the service holds, and what room is left, if the first has changed, and a minute has
+    passed since the last one: with a data directory and without one."""
     for kept in (False, True):
         clock = os.path.join(folder, f"clock-{kept}")
         shims.pass_time(clock, 0)
-        env = shims.loaded(folder, "ahead", CLOCK_AHEAD=clock) | {"BLOBD_LOG": "1"}
+        env = shims.loaded(folder, "ahead", CLOCK_AHEAD=clock) | {"BLOBD_LOG": "1", "BLOBD_MEMORY": "1G"}
         if kept:
-            env |= {"BLOBD_DATA": os.path.join(folder, "data"), "BLOBD_MEMORY": "1G"}
+            env |= {"BLOBD_DATA": os.path.join(folder, "data")}
         with Server(env=env, stderr=subprocess.PIPE) as server, server.client() as client:
             if kept:
                 equal("a start with nothing", server.told(60), f"blobd: 0 blobs, 0 B, 0 uploads open{AT_MOST}")
@@ -335,8 +340,10 @@ def a_line_a_minute(folder):
             lines.append(said())
             shims.pass_time(clock, 200)
             lines.append(said())
-            equal("the lines", lines, [[], ["0 blobs, 0 B, 1 upload open, 2.9 KiB in them"], [],
-                                       ["1 blob, 4.8 KiB, 1 upload open, 2.9 KiB in them"], []])
+            # of 1 GiB, but for some KiB
+            left = "1023.9 MiB left"
+            equal("the lines", lines, [[], [f"0 blobs, 0 B, 1 upload open, 2.9 KiB in them, {left}"], [],
+                                       [f"1 blob, 4.8 KiB, 1 upload open, 2.9 KiB in them, {left}"], []])
 
 
 @case()

@@ -10,11 +10,12 @@ import contextlib
 import hashlib
 import os
 import random
+import subprocess
 import threading
 import time
 
 from harness import shims
-from harness.running import MIB, SERVED, Server, ask_alone, pull
+from harness.running import MIB, SERVED, TABLE_FULL, Server, ask_alone, pull
 from harness.suite import case, check, equal, main, skip
 from harness.wire import PATIENCE, sha256, sha512, vanish
 
@@ -97,13 +98,14 @@ def answered(client, name):
 @case()
 def statuses():
     """Each kind of answer is told by each worker, and the requests behind it are answered too."""
-    with Server() as server, server.client() as one, server.client() as other:
+    with Server(stderr=subprocess.PIPE) as server, server.client() as one, server.client() as other:
         for which, client in enumerate((one, other)):
             equal(f"the statuses that worker {which} tells", *answered(client, f"lib/{which}"))
         opened = [one.ask("POST", "/v2/lib/many/blobs/uploads/").status for _ in range(1030)]
         # two sessions of answered() are still open
         is_right = opened == [202] * 1022 + [429] * 8
         check("as many sessions as there may be, and no more", is_right, opened[1015:])
+        equal("what is told of that", server.told(5), TABLE_FULL)
 
 
 @case()

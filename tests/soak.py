@@ -74,7 +74,8 @@ def soak(workers, is_refused, **settings):
         check(f"all serve at once of {what}", all_serve(server, workers, is_refused))
         goes_on = server.process.poll() is None
         # One that refuses requests for want of room says so, at most once a minute.
-        said = set(server.stop().splitlines()) - ({running.FULL.rstrip()} if is_refused else set())
+        want = {running.FULL.rstrip()} if is_refused else set()
+        said = set(server.stop().splitlines()) - want - {running.TABLE_FULL.rstrip()}
         equal(f"the server goes on, and says nothing else: {what}", (goes_on, said), (True, set()))
     counts = ", ".join(f"{name} {number}" for name, number in sorted(seen.items()))
     print(f"workers {workers}, clients {count}: {counts}", flush=True)

@@ -103,6 +103,20 @@ class Disk:
         # by path, what was renamed to it and what stood there before, while that isn't on the disk
         self.renamed = {}
 
+    @classmethod
+    def holding(cls, paths):
+        """A disk that has these, as `left` has them."""
+        disk = cls()
+        disk.files = {path: None if content is None else File(content) for path, content in paths.items()}
+        disk.named = set(paths)
+        return disk
+
+    def behind(self, notes):
+        """The same disk, once these calls were played."""
+        for note in notes:
+            self.play(note)
+        return self
+
     def play(self, note):
         if note.call == "folder":
             self.files[note.path] = None

@@ -23,7 +23,14 @@ USAGE = "usage: blobd once | serve ADDR COUNT | push ADDR NAME FILE CHUNK\n"
 SERVED = "served\n", 0
 # what a server says at most once a minute if requests have no room
 FULL = (
-    "blobd: requests are refused (503) for want of room: in memory (BLOBD_MEMORY), or on the disk of its data directory\n"
+    "blobd: requests are refused (503) for want of room: in memory (BLOBD_MEMORY), or on the disk of its data directory, "
+    "if it has one\n"
+)
+
+# and if its table of uploads is full
+TABLE_FULL = (
+    "blobd: uploads are refused (429) for want of room: its table of open ones is full; one goes as it is closed or "
+    "cancelled, or behind an hour without a request\n"
 )
 
 # Requests as they are sent.
@@ -153,6 +160,10 @@ class SmallDisk:
     def grow(self, size):
         """Makes it larger, beside whoever uses it."""
         demand(self.mount(f"remount,size={size}m"), "the disk can't be made larger")
+
+    def protect(self, is_protected=True):
+        """Has it be one that may only be read, or no more; nobody may have a file open to write."""
+        demand(self.mount(f"remount,{'ro' if is_protected else 'rw'}"), "the disk can't be protected")
 
     def __enter__(self):
         return self

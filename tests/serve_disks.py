@@ -1,0 +1,191 @@
+#!/usr/bin/env python3
+"""`blobd serve` with a data directory whose disk fails: at each sync and each write of a request, under clients, and in a
+start; and on a disk that may only be read.
+
+    serve_disks.py PROGRAM
+"""
+import errno
+import itertools
+import os
+import random
+import re
+import tempfile
+
+from harness import shims
+from harness.pushers import Pusher, Told, held, look
+from harness.running import MIB, Repeated, SmallDisk, becomes, pull, run
+from harness.suite import case, check, equal, main, skip
+from harness.wire import Connection, request_text, sha256
+from serve_data import FILLED, NAME, REFUSED, ended, filled, is_refused, named_losses, serving, tree
+
+WORKERS = 3
+# what standard error says of the call that failed
+FAILED = re.compile(r"blobd: can't keep a change in \S+: (journal|bodies): Input/output error \(os error 5\)\n")
+# Chunks that are in a record, in a file of their own, and in a file that is written and synced part by part.
+SIZES = 100, 70_000, 9 * MIB
+
+
+def failing(folder, path, call, spared):
+    """What loads a server so that one of its syncs or writes in a directory fails, behind so many others that are made once
+    a file is there, and that file: it is gone once the call has failed."""
+    fails = os.path.join(folder, "fails")
+    told = {"DISK_FOLDER": path, "DISK_FAILS": fails, "DISK_CALL": call, "DISK_SPARED": spared, "DISK_ERROR": errno.EIO}
+    return shims.loaded(folder, "faults", **told), fails
+
+
+def made(path):
+    with open(path, "wb"):
+        pass
+
+
+def asked(connection, *words):
+    """The status of the reply to a request, or nothing if the connection ended without one."""
+    connection.send(request_text(*words))
+    reply = connection.hear(words[0])
+    return reply and reply.status
+
+
+def occupied(server):
+    """A connection to each worker, over which it has answered."""
+    connections = [Connection(server.place()) for _ in range(WORKERS)]
+    equal("replies before", [asked(connection, "GET", "/v2/") for connection in connections], [200] * WORKERS)
+    return connections
+
+
+def stored_by(server):
+    """Has a new server store blobs, and begin an upload of three bytes, whose place is given."""
+    with server.client() as client:
+        equal("pushes", [client.push(NAME, content)[-1] for content in FILLED], [201] * len(FILLED))
+        place = client.opened(NAME)
+        equal("a chunk", client.send_chunks(place, b"abc"), [202])
+    return place
+
+
+def has_failed(name, server):
+    """Checks that a server ends, and says why."""
+    equal(f"{name}: how it ends", ended(server), REFUSED)
+    told = server.told(60)
+    check(f"{name}: what failed is told", FAILED.fullmatch(told), told)
+
+
+def goes_on_behind(name, path, place, size):
+    """Checks that the next server has what was answered, and of the chunk that wasn't all or nothing."""
+    with serving(path) as server, server.client() as client:
+        equal(f"{name}: a start without a loss", server.first_line[:10], "listening ")
+        equal(f"{name}: the blobs", [pull(server, NAME, sha256(content)) for content in FILLED], FILLED)
+        found = held(client, place)
+        check(f"{name}: the upload", found in ((204, 3), (204, 3 + size)), found)
+        equal(f"{name}: a push", client.push(NAME, b"more")[-1], 201)
+
+
+def a_call_fails(folder, call, spared, size):
+    """Sends a chunk to a server whose call behind so many others fails then, and checks that nobody hears anything from
+    there on. Gives whether there is such a call."""
+    name, path = f"{call} {spared} of {size} bytes", os.path.join(folder, "data")
+    env, fails = failing(folder, path, call, spared)
+    with serving(path, env=env | {"BLOBD_WORKERS": WORKERS}) as server:
+        equal(f"{name}: a start", named_losses(server), [])
+        place = stored_by(server)
+        first, *others = occupied(server)
+        made(fails)
+        status = asked(first, "PATCH", place, bytes(size))
+        if os.path.exists(fails):
+            equal(f"{name}: a chunk whose calls go well", status, 202)
+            return False
+        equal(f"{name}: no reply to the chunk", status, None)
+        if status is not None:
+            return True
+        statuses = [asked(other, "GET", f"/v2/{NAME}/blobs/{sha256(FILLED[0])}") for other in others]
+        equal(f"{name}: no reply to others", statuses, [None] * len(others))
+        has_failed(name, server)
+    goes_on_behind(name, path, place, size)
+    return True
+
+
+def calls_of_a_chunk(call, size):
+    """Has each call of a chunk fail in turn, and gives how many there are."""
+    for spared in itertools.count():
+        with tempfile.TemporaryDirectory() as folder:
+            if not a_call_fails(folder, call, spared, size):
+                return spared
+
+
+@case("cc")
+def each_sync_fails():
+    """A sync that fails once, whichever it is: the server answers nothing more, though later ones go well, says why and
+    ends. Behind a start all that was answered is there."""
+    counts = [calls_of_a_chunk("sync", size) for size in SIZES]
+    are_more = 1 < counts[0] < counts[1] < counts[2]
+    check("syncs of the journal, of a file and its name, and of parts", are_more, counts)
+
+
+@case("cc")
+def each_write_fails():
+    """The same of a write."""
+    counts = [calls_of_a_chunk("write", size) for size in SIZES]
+    are_more = 1 < counts[0] < counts[1] < counts[2]
+    check("writes of the journal, of a file, and of parts", are_more, counts)
+
+
+@case("cc")
+def a_sync_fails_under_clients(folder):
+    """Clients push while a sync fails: whatever any of them was told is there behind a start."""
+    path, told = os.path.join(folder, "data"), Told()
+    env, fails = failing(folder, path, "sync", 20)
+    with serving(path, env=env | {"BLOBD_WORKERS": 8}) as server:
+        equal("a start", named_losses(server), [])
+        pushers = Repeated([Pusher(server, told, seed).turn for seed in range(8)])
+        check("blobs before", becomes(True, lambda: len(told.stored) > 50), told.done)
+        made(fails)
+        has_failed("under clients", server)
+        pushers.end()
+    with serving(path) as server:
+        look(server, told, random.Random(1))
+
+
+@case("cc")
+def a_start_fails(folder):
+    """Each sync of a start that fails refuses the directory, and leaves it as it was."""
+    path = os.path.join(folder, "data")
+    filled(path)
+    for spared in itertools.count():
+        env, fails = failing(folder, path, "sync", spared)
+        made(fails)
+        with serving(path, env=env) as server:
+            if server.first_line != REFUSED[0]:
+                break
+            equal(f"sync {spared} of a start: its end", server.ended(), ("", REFUSED[1]))
+            told = server.told(60)
+            check(f"sync {spared} of a start is told", "Input/output error (os error 5)" in told, told)
+    check("there were syncs, and then a start", spared > 1 and os.path.exists(fails), spared)
+    with serving(path) as server:
+        equal("nothing is lost", named_losses(server), [])
+        equal("the blobs", [pull(server, NAME, sha256(content)) for content in FILLED], FILLED)
+
+
+@case()
+def a_disk_that_may_only_be_read(folder):
+    """It is refused, with a directory on it and without one, and serves once it may be written. What only looks at a
+    directory does so there too."""
+    with SmallDisk(folder, 60) as disk:
+        if not disk.is_there:
+            skip("a_disk_that_may_only_be_read", "this user may mount no small disk")
+            return
+        path = os.path.join(disk.path, "data")
+        filled(path)
+        looks = ["status", path], ["compact", "--dry-run", path]
+        told = [run(*words) for words in looks]
+        disk.protect()
+        is_refused("a directory that may only be read", path, "journal: ")
+        equal("who looks at it", [run(*words) for words in looks], told)
+        before = tree(path)
+        equal("a compaction", run("compact", path)[:2], REFUSED)
+        check("nothing is changed", tree(path) == before)
+        is_refused("a directory that can't be made", os.path.join(disk.path, "other"), "")
+        disk.protect(False)
+        with serving(path) as server:
+            equal("the blobs", [pull(server, NAME, sha256(content)) for content in FILLED], FILLED)
+
+
+if __name__ == "__main__":
+    main(__doc__)
