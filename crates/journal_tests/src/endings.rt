@@ -4,6 +4,8 @@ use journal::{Batch, Ending, Error, Journal, Looked};
 use sqlite_disk::Memory;
 use std::alloc::Global;
 use std::hash::{DefaultHasher, Hasher};
+use std::iter::Chain;
+use std::ops::Range;
 use std::test::Fail;
 
 const SECTOR: usize = 4096;
@@ -75,7 +77,7 @@ fn recovered(alloc: Global, bytes: &[u8]) -> Result<(Ending, Ending, usize), Err
 }
 
 /// The places of the bytes that stand before the records of the batch behind this gate, and mean something.
-fn places_before(gate: usize) -> impl Iterator<Item = usize> {
+fn places_before(gate: usize) -> Chain<Range<usize>, Range<usize>> {
     let head = gate.saturating_add(SECTOR);
     (gate..gate.saturating_add(1 + HEAD_LEN)).chain(head..head.saturating_add(HEAD_LEN))
 }
