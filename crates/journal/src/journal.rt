@@ -385,14 +385,15 @@ impl<D: Disk> Journal<D> {
 
     /// Brings back the batch at whose gate the file ends, by the copy of its head that a gate has once it was opened. If
     /// the gate is shut and has a copy of the head behind it, it is opened. If it is open, and its batch isn't there, the
-    /// head is written of which it has a copy, if that has the batch's number and the file has room for it. It is to be
+    /// head is written of which it has a copy, if that has the batch's number, the file has room for it, and no more than
+    /// one of the four numbers there differs: otherwise other bytes stand there, such as another sector's. It is to be
     /// called again until there is no such batch: what the file stands for goes on to the next damage.
     ///
     /// A gate's sector has nothing of what a record has, and one that was never opened has no copy. So a crash leaves no
     /// such end, but that of a gate that was being opened: its batch is on the disk, and comes back whole.
     ///
-    /// `true` says that there was one, and that the repair is on the disk; `false`, that nothing was written. The journal
-    /// isn't open then: `recover` opens it. An error is one of `recover`.
+    /// `true` says that there was one, and that the repair is on the disk; `false`, that nothing was written. Behind
+    /// either the journal isn't open: `recover` opens it. An error is one of `recover`.
     pub fn mend(&mut self, alloc: Global) -> Result<bool, Error>
         ensures mended { IfOk result (λ is. is ≡ true → IsTrue (D.Disk.is_clean (disk_of self.new))
             → IsMended (D.Disk.seen (disk_of self.old)) (D.Disk.seen (disk_of self.new))) }

@@ -160,7 +160,7 @@ fn write_head<D: Disk>(
     Ok(())
 }
 
-/// Brings back the batch at this end, if no more than a sector is damaged of what leads to it.
+/// Brings back the batch at this end, if of what leads to it only the gate is damaged, or only one number of its head.
 fn mend_end<D: Disk>(disk: &mut D, len: usize, end: End) -> Result<bool, Error>
     requires usable { IsTrue (D.Disk.is_usable disk.old) }
     requires measured { IsTrue (D.Disk.is_clean disk.old) → len ≡ length (D.Disk.seen disk.old) }
@@ -195,8 +195,8 @@ fn mend_end<D: Disk>(disk: &mut D, len: usize, end: End) -> Result<bool, Error>
     Ok(true)
 }
 
-/// Brings back the batch at which the file ends, if no more than a sector is damaged of what leads to it. Whether there
-/// was one, and it is on the disk now.
+/// Brings back the batch at which the file ends, if of what leads to it only the gate is damaged, or only one number of
+/// its head. Whether there was one, and it is on the disk now.
 pub fn mend<D: Disk>(disk: &mut D, line: &Line, alloc: Global) -> Result<bool, Error>
     requires usable { IsTrue (D.Disk.is_usable disk.old) }
     ensures mended { IfOk result (λ is. is ≡ true → IsTrue (D.Disk.is_clean disk.new)
