@@ -43,5 +43,6 @@ hint_on NotEmpty = codes "; name a folder that is empty, or isn't there"
 hint_on NoBodies = codes "; put them back, or move it away and push again"
 hint_on NoJournal = codes "; put that back, or move it away and push again"
 hint_on EmptyJournal = codes "; put that back, or move it away and push again"
-hint_on BrokenJournal = codes "; put the journal back, or start without BLOBD_STRICT, which goes on without them"
+hint_on BrokenJournal =
+    codes "; put the journal back, or start without BLOBD_STRICT, which mends it or goes on without them"
 hint_on (Store fault) = hint_on_store fault

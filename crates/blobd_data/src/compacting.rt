@@ -46,6 +46,12 @@ pub enum CompactingFault {
     CutOff,
 }
 
+impl From<DataFault> for CompactingFault {
+    fn from(fault: DataFault) -> CompactingFault {
+        CompactingFault::Data(fault)
+    }
+}
+
 impl fmt::Display for CompactingFault {
     fn fmt<W: fmt::Write>(&self, f: &mut fmt::Formatter<W>) -> fmt::Result {
         match self {
@@ -54,7 +60,7 @@ impl fmt::Display for CompactingFault {
             CompactingFault::Fresh(fault) => write!(f, "{FRESH}: {fault}"),
             CompactingFault::Compact(fault) => write!(f, "{}", CompactText(fault)),
             CompactingFault::BrokenJournal => f.write_str(
-                "journal: records are missing at its end: put it back, or start a server, which goes on without them",
+                "journal: records are missing at its end: put it back, or start a server, which mends it or goes on without them",
             ),
             CompactingFault::Switch(error) => write!(f, "{FRESH}: {error}"),
             CompactingFault::Sweep(fault) => write!(f, "{}", StoreText(fault)),
@@ -239,13 +245,23 @@ fn sweep_by<D: Disk + Drop, S: Shelf + Drop>(
 }
 
 /// Writes the journal of the data directory at `path` anew, for a service with these limits, as the shortest one that
-/// stands for the same service, and removes the files of bodies that it doesn't name. Uploads that are idle go, and so do
-/// the blobs of repositories that needn't stay, if that is said (`Leaving`). If records are missing, standard error
-/// says first that this makes it final. No server can have the directory meanwhile. A
-/// crash at any moment leaves the old journal or the new one, and all that it names. Bodies are read ahead in threads, an
-/// eighth of the memory that the service may hold at most (`most_ahead`).
+/// stands for the same service, and removes the files of bodies that it doesn't name. Uploads that are idle go, and so
+/// do the blobs of repositories that needn't stay, if that is said (`Leaving`). What a damaged gate at the journal's
+/// end hides is brought back first, as by a start. If records are missing, standard error says first that this makes it
+/// final. No server can have the directory meanwhile. A crash at any moment leaves the old journal or the new one, and
+/// all that it names. Bodies are read ahead in threads, an eighth of the memory that the service may hold at most
+/// (`most_ahead`). Which values stand for `J`, `N`, `S` and `H` says nothing: what holds of all of them holds of what
+/// is there.
 ///
-/// Which values stand for `J`, `N`, `S` and `H` says nothing: what holds of all of them holds of what is there.
+/// `NoJournal`: there is none, or no folder. `Data`: the folder, its journal or its bodies can't be opened, another
+/// server has it, its bodies are missing, or its journal was cut before its first record. `BrokenJournal`: the journal
+/// ends as no crash leaves it; a start may mend it. `Fresh`: the new journal can't be made. `Compact`: the old one has
+/// another format, another version or other limits, it can't be read, or a record of it can't be run again; or the new
+/// one can't be written or isn't the same; or there is no memory. Behind these no record of the directory is changed,
+/// no body goes that one names, and no more is written of the journal than its end, which a crash may have left, and
+/// the sectors between records that hid some. `Switch`: the new journal can't take the old one's place, or maybe not
+/// for good. `Sweep`: the files that no record names can't be looked for, or one can't be removed; what journal there
+/// is to be has its place then.
 pub fn compact_data<R: Threads, J: Start, N: Start, S: Start, H: Holds>(
     threads: &R,
     rt: &HostRuntime,
@@ -298,17 +314,9 @@ fn compact_in<R: Threads, J: Start, N: Start, S: Start, H: Holds>(
     requires lawful { AreLawful limits }
     requires empty { S.Start.db ≡ [] }
 {
-    let mut file = match open_journal(rt, folder, JOURNAL, start) {
-        Ok(file) => file,
-        Err(fault) => return Err(CompactingFault::Data(fault)),
-    };
-    let mut shelf = match open_shelf::<S, H>(rt, folder) {
-        Ok(shelf) => shelf,
-        Err(fault) => return Err(CompactingFault::Data(fault)),
-    };
-    if let Err(fault) = refuse_cut(rt, &mut file, &mut shelf) {
-        return Err(CompactingFault::Data(fault));
-    }
+    let mut file = open_journal(rt, folder, JOURNAL, start)?;
+    let mut shelf = open_shelf::<S, H>(rt, folder)?;
+    refuse_cut(rt, &mut file, &mut shelf)?;
     let none = Vec::new(rt.alloc());
     let shelf = AheadShelf::new(threads, rt.alloc(), shelf, none, most_ahead(memory));
     let mut journal = Journal::new(file, line_of(limits));

@@ -1,5 +1,5 @@
 //! Why a data directory can't be used.
-use crate::texts::StoreText;
+use crate::texts::{AT_THE_END, StoreText};
 use journal_file::OpenFault;
 use std::fmt;
 use upload_journal::ReplayFault;
@@ -58,9 +58,7 @@ impl fmt::Display for DataFault {
             DataFault::NoBodies => f.write_str("it has a journal, but its bodies are missing"),
             DataFault::NoJournal => f.write_str("it has bodies, but its journal is missing"),
             DataFault::EmptyJournal => f.write_str("it has bodies, but its journal is empty"),
-            DataFault::BrokenJournal => f.write_str(
-                "journal: records are missing at its end: it is damaged or cut there, or a copy that was made while a server wrote",
-            ),
+            DataFault::BrokenJournal => write!(f, "journal: {AT_THE_END}"),
             DataFault::Store(fault) => write!(f, "{}", StoreText(fault)),
         }
     }

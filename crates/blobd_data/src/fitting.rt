@@ -1,20 +1,19 @@
 //! A data directory that a server can't hold is known before it is opened.
 ghost use Rattle.std.specs.Prelude.{◌<◌, IfSome};
 
+use crate::compacting::length_of;
 use crate::files::{BodyThere, amount_but, bytes_in, list_files, note_named};
 use crate::open::{JOURNAL, Missing};
 use crate::status::{look_at_journal, missing_of};
 use journal::{Journal, Looked};
 use journal_file::Start;
 use sqlite_disk::Disk;
-use std::fs;
 use upload_records::{Census, Named, take_census};
 use upload_service::Limits;
 
 /// How many bytes these files and the journal of the data directory at `path` have. None if that can't be told.
 fn bytes_there(rt: &HostRuntime, path: &str, files: &[BodyThere]) -> Option<u64> {
-    let name = format!(in rt.alloc(); "{path}/{JOURNAL}").ok()?;
-    let journal = fs::metadata(rt, name.as_str()).ok()?.len();
+    let journal = length_of(rt, path, JOURNAL).ok()??;
     let all = amount_but(files, &Named::new(rt.alloc()));
     Some(all.in_files.saturating_add(journal))
 }

@@ -1,6 +1,6 @@
-//! What is told of the records that are lost.
+//! What is told of records that are lost, and of what a start mended or removed.
 use crate::open::{BODIES, Missing, Repairs};
-use crate::texts::RecordText;
+use crate::texts::{AT_THE_END, RecordText};
 use blobd_shared::{ByteCount, Quantity};
 use std::io::{self, Eprint};
 use std::{fmt, fs};
@@ -156,7 +156,7 @@ pub fn tell_end<R: Eprint>(rt: &R, path: &str, missing: Missing) {
     let _ = match missing {
         Missing::None => Ok(()),
         Missing::Here => eprintln!(rt;
-            "blobd: damage in {path}: journal: records are missing at its end: it is damaged or cut there, or a copy that was made while a server wrote; a start goes on without what it can't mend"
+            "blobd: damage in {path}: journal: {AT_THE_END}; a start goes on without what it can't mend"
         ),
         Missing::Before => tell_before(rt, path),
     };
@@ -213,7 +213,7 @@ pub fn tell_missing<R: Eprint>(rt: &R, path: &str, missing: Missing) {
     let _ = match missing {
         Missing::None => Ok(()),
         Missing::Here => eprintln!(rt;
-            "blobd: damage in {path}: journal: records are missing at its end: it is damaged or cut there, or a copy that was made while a server wrote; it goes on without them, and no file is removed before `blobd compact {path}`"
+            "blobd: damage in {path}: journal: {AT_THE_END}; it goes on without them, and no file is removed before `blobd compact {path}`"
         ),
         Missing::Before => tell_before(rt, path),
     };

@@ -40,7 +40,7 @@ pub(crate) const BEGUN: usize = 8_192;
 /// The folder of the bodies, within it.
 pub(crate) const BODIES: &str = "bodies";
 
-/// A start mends so many damaged sectors of a journal at most.
+/// A start mends so many damaged sectors of a journal at most, since the journal is read once more for each.
 const MOST_MENDED: u64 = 4_096;
 
 /// What a file system has in its own folder.
@@ -237,8 +237,9 @@ pub(crate) fn refuse_cut<D: Disk, S: Shelf>(
     Ok(())
 }
 
-/// Reads a journal, and removes the files that no record names, if that is sure. Of one that doesn't end soundly, what
-/// damaged sectors hide is brought back first, if the directory isn't refused for it: counts these sectors.
+/// Reads a journal, and removes the files that no record names, if that is sure. If it doesn't end soundly, what
+/// damaged sectors hide is brought back before that, unless the directory is refused for it; `mended` counts these
+/// sectors.
 fn sweep_mended<D: Disk, S: Shelf>(
     rt: &HostRuntime,
     journal: &mut Journal<D>,

@@ -10,6 +10,10 @@ use upload_journal::{BodyFault, EntryFault, ReplayFault};
 use upload_keeping::KeepFault;
 use upload_store::{RefusedRecord, StoreFault};
 
+/// What is told of a journal that ends as no crash leaves it.
+pub(crate) const AT_THE_END: &str =
+    "records are missing at its end: it is damaged or cut there, or a copy that was made while a server wrote";
+
 /// What is told of why a store can't be opened, or doesn't keep something.
 #[derive(Drop)]
 pub(crate) struct StoreText<'a>(pub(crate) &'a StoreFault);
@@ -161,7 +165,7 @@ pub fn hint_on(fault: &DataFault) -> &'static str
         DataFault::NoJournal | DataFault::EmptyJournal =>
             "; put that back, or move it away and push again",
         DataFault::BrokenJournal =>
-            "; put the journal back, or start without BLOBD_STRICT, which goes on without them",
+            "; put the journal back, or start without BLOBD_STRICT, which mends it or goes on without them",
         DataFault::Store(fault) => hint_on_store(fault),
     }
 }

@@ -43,10 +43,7 @@ fn look<J: Start>(
     limits: Limits,
     start: J,
 ) -> Result<Journal<FileFrom<J>>, CompactingFault> {
-    match look_at_journal(rt, path, limits, start) {
-        Ok(journal) => Ok(journal),
-        Err(fault) => Err(CompactingFault::Data(fault)),
-    }
+    Ok(look_at_journal(rt, path, limits, start)?)
 }
 
 /// What records come to, if none of them is damaged.

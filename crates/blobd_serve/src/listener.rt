@@ -300,8 +300,9 @@ where
 
 /// Serves a listener as [`run_serve`] does, from this service on. Each request that changes it is kept before its
 /// answer is written. If that fails, nobody hears that answer or a later one, the listener is shut, each connection is
-/// ended, and `fault: data` is printed in place of `served` once the workers have ended, which takes a second or so.
-/// `fault: listen` is also printed if the listener can't be shared with what shuts it.
+/// ended, and `fault: data` is printed in place of `served` once the workers have ended, which takes a second or so;
+/// then the last connections are closed, as there. `fault: listen` is also printed if the listener can't be shared with
+/// what shuts it.
 pub fn run_serve_kept<'a, R, K, W>(
     rt: &'a R,
     listener: &'a TcpListener,

@@ -98,8 +98,9 @@ impl Pace {
 /// How many microseconds a second has.
 const SECOND: u64 = 1_000_000;
 
-/// For how many seconds a call waits at most: so soon it is seen that the server has ended. And where the system has
-/// room for a few more bytes it doesn't end a write that waits for much room, and the next write takes them.
+/// For how many seconds a call waits at most, so that it is soon seen that the server has ended. It also helps a slow
+/// client: the system doesn't end a write before much of its buffer is free, and the next write takes the little room
+/// that there is.
 const LONGEST_CALL: u64 = 1;
 
 /// Whether a connection was written to since it was read from: what is read next belongs to another request. Its two
@@ -233,7 +234,7 @@ impl<'a, R: Clock> Watch<'a, R> {
 }
 
 /// What a half answers once its client was too slow, or the server has ended.
-fn too_slow() -> io::Error
+fn cut_off() -> io::Error
     ensures { error_kind result ≢ ErrorKind.Interrupted }
 {
     io::Error::from(ErrorKind::TimedOut)
@@ -299,7 +300,7 @@ fn read_in_time<S: Inlet + Timed, R: Clock>(
             return read;
         }
     }
-    Err(too_slow())
+    Err(cut_off())
 }
 
 /// Writes, and again for as long as the client may take its time. What it takes is what the stream took. An error: the
@@ -326,7 +327,7 @@ fn write_in_time<S: Outlet + Timed, R: Clock>(
             return wrote;
         }
     }
-    Err(too_slow())
+    Err(cut_off())
 }
 
 impl<'a, S: Inlet + Timed, R: Clock> Inlet for Half<'a, S, R> {

@@ -21,7 +21,7 @@ const NO_HEAD: &str = "-";
 fn want_of_room(status: u16) -> Option<&'static str> {
     match status {
         429 => Some(
-            "blobd: uploads are refused (429) for want of room: its table of open ones is full; one goes as it is closed or cancelled, or behind an hour without a request",
+            "blobd: uploads are refused (429) for want of room: its table of open ones is full, or its last number was issued; one goes as it is closed or cancelled, or behind an hour without a chunk",
         ),
         503 => Some(
             "blobd: requests are refused (503) for want of room: in memory (BLOBD_MEMORY), or on the disk of its data directory, if it has one",
@@ -95,10 +95,10 @@ impl<'a, R: Clock + Eprint + Wait> Observer for RequestLog<'a, R> {
     }
 
     fn replied(&mut self, status: u16, size: u64) {
-        if let Some(text) = want_of_room(status) {
-            if self.fullness.tells(self.rt) {
-                self.tell_full(text);
-            }
+        if let Some(text) = want_of_room(status)
+            && self.fullness.tells(self.rt)
+        {
+            self.tell_full(text);
         }
         if let Some(lines) = &mut self.lines {
             let millis = millis_since(self.rt, self.heard);
