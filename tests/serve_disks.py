@@ -1,5 +1,5 @@
 #!/usr/bin/env python3
-"""`blobd serve` with a data directory whose disk fails: at each sync and each write of a request, under clients, and in a
+"""`blobd serve` with a data directory whose disk fails: at each sync and each write of a chunk, under clients, and in a
 start; and on a disk that may only be read.
 
     serve_disks.py PROGRAM
@@ -10,13 +10,14 @@ import os
 import random
 import re
 import tempfile
+import time
 
 from harness import shims
 from harness.pushers import Pusher, Told, held, look
 from harness.running import MIB, Repeated, SmallDisk, becomes, pull, run
 from harness.suite import case, check, equal, main, skip
 from harness.wire import Connection, request_text, sha256
-from serve_data import FILLED, NAME, REFUSED, ended, filled, is_refused, named_losses, serving, tree
+from serve_data import FILLED, NAME, REFUSED, filled, is_refused, named_losses, serving, tree
 
 WORKERS = 3
 # what standard error says of the call that failed
@@ -46,7 +47,7 @@ def asked(connection, *words):
 
 
 def occupied(server):
-    """A connection to each worker, over which it has answered."""
+    """A connection to each worker but one, over which it has answered."""
     connections = [Connection(server.place()) for _ in range(WORKERS)]
     equal("replies before", [asked(connection, "GET", "/v2/") for connection in connections], [200] * WORKERS)
     return connections
@@ -62,8 +63,10 @@ def stored_by(server):
 
 
 def has_failed(name, server):
-    """Checks that a server ends, and says why."""
-    equal(f"{name}: how it ends", ended(server), REFUSED)
+    """Checks that a server ends soon, though nobody asks it for anything more, and says why."""
+    begun = time.monotonic()
+    equal(f"{name}: how it ends", server.ended(), REFUSED)
+    check(f"{name}: it ends soon", time.monotonic() - begun < 10)
     told = server.told(60)
     check(f"{name}: what failed is told", FAILED.fullmatch(told), told)
 
@@ -83,10 +86,10 @@ def a_call_fails(folder, call, spared, size):
     there on. Gives whether there is such a call."""
     name, path = f"{call} {spared} of {size} bytes", os.path.join(folder, "data")
     env, fails = failing(folder, path, call, spared)
-    with serving(path, env=env | {"BLOBD_WORKERS": WORKERS}) as server:
+    with serving(path, env=env | {"BLOBD_WORKERS": WORKERS + 1}) as server:
         equal(f"{name}: a start", named_losses(server), [])
         place = stored_by(server)
-        first, *others = occupied(server)
+        first, other, idle = occupied(server)
         made(fails)
         status = asked(first, "PATCH", place, bytes(size))
         if os.path.exists(fails):
@@ -95,8 +98,8 @@ def a_call_fails(folder, call, spared, size):
         equal(f"{name}: no reply to the chunk", status, None)
         if status is not None:
             return True
-        statuses = [asked(other, "GET", f"/v2/{NAME}/blobs/{sha256(FILLED[0])}") for other in others]
-        equal(f"{name}: no reply to others", statuses, [None] * len(others))
+        equal(f"{name}: no reply to another", asked(other, "GET", f"/v2/{NAME}/blobs/{sha256(FILLED[0])}"), None)
+        equal(f"{name}: an idle connection is ended", idle.hear("GET"), None)
         has_failed(name, server)
     goes_on_behind(name, path, place, size)
     return True
@@ -145,7 +148,7 @@ def a_sync_fails_under_clients(folder):
 
 @case("cc")
 def a_start_fails(folder):
-    """Each sync of a start that fails refuses the directory, and leaves it as it was."""
+    """Each sync of a start that fails refuses the directory, and nothing is lost by it."""
     path = os.path.join(folder, "data")
     filled(path)
     for spared in itertools.count():

@@ -13,6 +13,7 @@ from harness import shims
 from harness.running import FULL, Server, ask_alone, pull, run
 from harness.suite import OPTIONS, case, check, equal, main
 from harness.wire import sha256
+from serve_data import tree
 
 MIB = 1 << 20
 NAME = "lib/a"
@@ -188,17 +189,6 @@ def less_than_a_blob_takes():
             equal(f"BLOBD_MEMORY={value}", server.told(0.2), few.format(said) if said else "")
 
 
-def contents(path):
-    """What is in a folder: the bytes of each file by its name, and None by that of a folder."""
-    found = {}
-    for folder, folders, names in os.walk(path):
-        found |= {os.path.join(folder, name): None for name in folders}
-        for name in names:
-            with open(os.path.join(folder, name), "rb") as file:
-                found[os.path.join(folder, name)] = file.read()
-    return found
-
-
 def refused(path, memory, strict="0"):
     """What a start says that may hold so much, and can't use the directory."""
     env = {"BLOBD_DATA": path, "BLOBD_MEMORY": memory, "BLOBD_STRICT": strict}
@@ -219,12 +209,12 @@ def smaller_than_a_directory(folder):
     os.makedirs(os.path.dirname(unnamed), mode=0o700, exist_ok=True)
     with open(unnamed, "wb") as file:
         file.write(b"unnamed")
-    before = contents(path)
+    before = tree(path)
     size = sum(map(len, stored)) * 10 // MIB / 10
     for strict in "01":
         equal("why", refused(path, "6M", strict),
               f"blobd: can't use {path}: it holds {size} MiB, BLOBD_MEMORY is 6.0 MiB: set BLOBD_MEMORY to more\n")
-        check("nothing in it is changed", contents(path) == before)
+        check("nothing in it is changed", tree(path) == before)
     with serving(room="16M", BLOBD_DATA=path) as server:
         has_all(server, stored)
         equal("one more", ask_alone(
@@ -239,7 +229,7 @@ def smaller_than_a_damaged_directory(folder):
     path = os.path.join(folder, "data")
     with serving(BLOBD_DATA=path) as server, server.client() as client:
         stored = filled(client, chance, (500_000,))
-    bodies = [name for name, body in contents(path).items() if body and os.path.basename(name) != "journal"]
+    bodies = [name for name, body in tree(path).items() if body and os.path.basename(name) != "journal"]
     os.remove(bodies[0])
     told = refused(path, "6M")
     first = re.match(rf"blobd: can't use {path}: it holds \S+ MiB, BLOBD_MEMORY is 6\.0 MiB: set .* to more; ", told)
