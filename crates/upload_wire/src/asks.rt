@@ -396,15 +396,15 @@ impl HeadAsk {
         }
     }
 
-    /// By what the body is hashed as it comes: if the service may want the hash of just its bytes. A small chunk, and
-    /// one that comes behind others, the service hashes with what is around it; `filled` is an upload that is known to
+    /// By what the body is hashed as it comes: if the service may want the hash of just its bytes. A small chunk, and a
+    /// body that comes behind chunks, the service hashes with what is around it; `filled` is an upload that is known to
     /// have bytes. What a chunk will be asked for, its close says; most say SHA-256.
     pub fn hash_wanted(&self, framing: Framing, filled: Option<UploadRef>) -> Option<Algorithm> {
         let is_small = matches!(framing, Framing::Length(length) if length <= 65_536);
         match self {
             HeadAsk::Single { digest, .. } => Some((*digest)?.algorithm()),
-            _ if is_small => None,
-            HeadAsk::Chunk { at, range, .. } if filled != Some(*at) && may_be_first(*range) => {
+            HeadAsk::Chunk { at, range, .. }
+                if !is_small && filled != Some(*at) && may_be_first(*range) => {
                 Some(Algorithm::Sha256)
             }
             HeadAsk::Close {
