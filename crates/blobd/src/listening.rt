@@ -319,7 +319,7 @@ where
         limits(),
         room,
         Wary,
-        Teller { rt, path },
+        Teller::new(rt, path),
         damaged,
     );
     let data = match opened {

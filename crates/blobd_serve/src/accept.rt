@@ -113,7 +113,7 @@ impl<'a, L: Accepts + Drop, R: Clock + Eprint + Wait> Accepted<'a, L, R> {
     fn tell_last(&mut self, error: &io::Error)
         ensures { (self.new.left ≡ self.old.left) × (self.new.door ≡ self.old.door) }
     {
-        if !self.door.is_over() {
+        if !self.door.has_ended() {
             self.tell("takes no more connections", error);
         }
     }

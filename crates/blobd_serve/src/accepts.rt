@@ -15,7 +15,7 @@ pub trait Timed {
     fn limit_writes(&self, longest: Duration) -> io::Result<()>;
 
     /// Whether its server has ended, so that nobody is waited for.
-    fn is_over(&self) -> bool;
+    fn has_ended(&self) -> bool;
 }
 
 /// The connections of one worker, one after the other. A worker has no other way to get one, and gives each back.
@@ -41,7 +41,7 @@ pub trait Accepts {
         ensures none { OnErr result (history self.new ≡ history self.old) };
 
     /// Whether the server has ended, so that no connection comes any more.
-    fn is_over(&self) -> bool;
+    fn has_ended(&self) -> bool;
 
     /// Takes a connection back that was served: both ends are as its conversation left them.
     fn take_back(&mut self, source: Self::In, sink: Self::Out)

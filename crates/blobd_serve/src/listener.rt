@@ -13,7 +13,7 @@ use crate::closing::{Closer, Closing};
 use crate::kept::serve_kept_over;
 use crate::request_log::RequestLog;
 use crate::serve::serve_over;
-use crate::shutting::{Over, Shutter, Shutting};
+use crate::shutting::{Ended, Shutter, Shutting};
 use crate::workers::{SinceStart, SystemSecrets};
 use blobd_shared::{ConnHistory, FAULT, Inlet, Outlet, print_line};
 use http_wire::{ByteSink, ByteSource, Transcript};
@@ -37,19 +37,19 @@ type Shared = Arc<Option<TcpStream>, Global>;
 pub(crate) struct Socket {
     shared: Shared,
     /// Whether its server has ended.
-    over: Over,
+    ended: Ended,
     /// For contracts alone.
     moved: Transcript,
 }
 
 impl Socket {
     /// The end of a stream over which nothing has moved so far.
-    fn new(shared: Shared, over: Over) -> Socket
+    fn new(shared: Shared, ended: Ended) -> Socket
         ensures { result.moved ≡ record { bytes = []; ended = false } }
     {
         Socket {
             shared,
-            over,
+            ended,
             moved: Transcript::none(),
         }
     }
@@ -99,8 +99,8 @@ impl Timed for Socket {
         self.stream()?.set_write_timeout(Some(longest))
     }
 
-    fn is_over(&self) -> bool {
-        self.over.is_over()
+    fn has_ended(&self) -> bool {
+        self.ended.has_ended()
     }
 }
 
@@ -115,7 +115,7 @@ pub(crate) struct Door<'a, R> {
     /// Where a connection is closed once it is given back.
     closing: Closing,
     /// Whether the server has ended.
-    over: Over,
+    ended: Ended,
     /// For contracts alone.
     history: ConnHistory<Socket, Socket>,
 }
@@ -127,7 +127,7 @@ impl<'a, R> Door<'a, R> {
         alloc: Global,
         listener: &'a TcpListener,
         closer: &Option<Closer>,
-        over: &Over,
+        ended: &Ended,
     ) -> Result<Door<'a, R>, AllocError>
         ensures { IfOk result (λ door. door.history ≡ []) }
     {
@@ -137,7 +137,7 @@ impl<'a, R> Door<'a, R> {
             listener,
             spare: Some(Arc::new(alloc, None)?),
             closing: Closing::new(closer)?,
-            over: over.share()?,
+            ended: ended.share()?,
             history: ConnHistory::none(),
         })
     }
@@ -166,7 +166,7 @@ impl<'a, R: Wait + Sync> Accepts for Door<'a, R> {
     ghost history = { λ d. d.history };
 
     fn accept(&mut self) -> io::Result<(Socket, Socket)> {
-        let (read, write) = (self.over.share()?, self.over.share()?);
+        let (read, write) = (self.ended.share()?, self.ended.share()?);
         let (stream, _) = self.listener.accept()?;
         // What is written leaves as it is written: a head and a small body are one write. A peer that has gone already
         // can make this fail; the reads and writes will tell.
@@ -178,8 +178,8 @@ impl<'a, R: Wait + Sync> Accepts for Door<'a, R> {
         Ok((source, sink))
     }
 
-    fn is_over(&self) -> bool {
-        self.over.is_over()
+    fn has_ended(&self) -> bool {
+        self.ended.has_ended()
     }
 
     /// Closes the connection.
@@ -203,14 +203,14 @@ fn doors<'a, R>(
     listener: &'a TcpListener,
     count: usize,
     closer: &Option<Closer>,
-    over: &Over,
+    ended: &Ended,
 ) -> Result<Vec<Door<'a, R>>, AllocError>
     ensures number { IfOk result (λ doors. vec_len doors ≡ count) }
     ensures new { IfOk result (λ doors. All (λ door. door.history ≡ []) doors.items) }
 {
     let mut doors = Vec::new(alloc);
     for number in 0..count {
-        doors.push(Door::new(rt, alloc, listener, closer, over)?)?;
+        doors.push(Door::new(rt, alloc, listener, closer, ended)?)?;
     }
     Ok(doors)
 }
@@ -220,7 +220,7 @@ fn doors<'a, R>(
 struct Opened<'a, R> {
     addr: SocketAddr,
     /// What all doors see of whether the server has ended.
-    over: Over,
+    ended: Ended,
     closer: Option<Closer>,
     doors: Vec<Door<'a, R>>,
 }
@@ -239,16 +239,16 @@ where
     let Ok(addr) = listener.local_addr() else {
         return Err("fault: listen");
     };
-    let Ok(over) = Over::new(rt.alloc()) else {
+    let Ok(ended) = Ended::new(rt.alloc()) else {
         return Err("fault: workers");
     };
     let closer = Closer::start(rt, rt.alloc());
-    let Ok(doors) = doors(rt, rt.alloc(), listener, count, &closer, &over) else {
+    let Ok(doors) = doors(rt, rt.alloc(), listener, count, &closer, &ended) else {
         return Err("fault: workers");
     };
     Ok(Opened {
         addr,
-        over,
+        ended,
         closer,
         doors,
     })
@@ -332,14 +332,14 @@ where
 {
     let Opened {
         addr,
-        over,
+        ended,
         closer,
         doors,
     } = match open_doors(rt, listener, terms.workers) {
         Ok(opened) => opened,
         Err(fault) => return print_line(out, fault, FAULT),
     };
-    let Ok(shutter) = Shutter::new(listener, over) else {
+    let Ok(shutter) = Shutter::new(listener, ended) else {
         return print_line(out, "fault: listen", FAULT);
     };
     let KeptService {

@@ -291,7 +291,7 @@ fn read_in_time<S: Inlet + Timed, R: Clock>(
         let Some(pace) = watch.pace else {
             break;
         };
-        if stream.is_over() || watch.allow_read(stream, pace).is_err() {
+        if stream.has_ended() || watch.allow_read(stream, pace).is_err() {
             break;
         }
         let begun = watch.now();
@@ -318,7 +318,7 @@ fn write_in_time<S: Outlet + Timed, R: Clock>(
         let Some(pace) = watch.pace else {
             break;
         };
-        if stream.is_over() || watch.allow_write(stream, pace).is_err() {
+        if stream.has_ended() || watch.allow_write(stream, pace).is_err() {
             break;
         }
         let begun = watch.now();

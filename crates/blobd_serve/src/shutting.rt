@@ -14,20 +14,20 @@ use upload_service::{Answer, Ask, Service};
 
 /// Whether a server has ended. All that waits for its clients has a share.
 #[derive(Drop)]
-pub(crate) struct Over(Arc<AtomicBool, Global>);
+pub(crate) struct Ended(Arc<AtomicBool, Global>);
 
-impl Over {
+impl Ended {
     /// It goes on so far. An error is out of memory.
-    pub(crate) fn new(alloc: Global) -> Result<Over, AllocError> {
-        Ok(Over(Arc::new(alloc, AtomicBool::new(false))?))
+    pub(crate) fn new(alloc: Global) -> Result<Ended, AllocError> {
+        Ok(Ended(Arc::new(alloc, AtomicBool::new(false))?))
     }
 
     /// The same for another. An error comes if too many share it.
-    pub(crate) fn share(&self) -> Result<Over, AllocError> {
-        Ok(Over(Arc::try_clone(&self.0)?))
+    pub(crate) fn share(&self) -> Result<Ended, AllocError> {
+        Ok(Ended(Arc::try_clone(&self.0)?))
     }
 
-    pub(crate) fn is_over(&self) -> bool {
+    pub(crate) fn has_ended(&self) -> bool {
         self.0.load(Ordering::SeqCst)
     }
 
@@ -41,21 +41,21 @@ impl Over {
 pub(crate) struct Shutter {
     /// Its listener, as a stream: only of streams can the system be told to shut them.
     listener: TcpStream,
-    over: Over,
+    ended: Ended,
 }
 
 impl Shutter {
     /// That of the server at this listener. An error is the system's.
-    pub(crate) fn new(listener: &TcpListener, over: Over) -> io::Result<Shutter>
-        ensures { IfOk result (λ shutter. shutter.over ≡ over) }
+    pub(crate) fn new(listener: &TcpListener, ended: Ended) -> io::Result<Shutter>
+        ensures { IfOk result (λ shutter. shutter.ended ≡ ended) }
     {
         let listener = TcpStream::from(OwnedFd::from(listener.try_clone()?));
-        Ok(Shutter { listener, over })
+        Ok(Shutter { listener, ended })
     }
 
     /// Ends the server. Each accept that waits fails, and each later one; and no read or write is made again.
     fn shut(&self) {
-        self.over.end();
+        self.ended.end();
         // If that failed, a worker would end behind the next connection that comes to it.
         let _ = self.listener.shutdown(Shutdown::Both);
     }
@@ -97,6 +97,10 @@ impl<K: Keeping> Keeping for Shutting<K> {
 
     fn let_go(&mut self) {
         self.keeping.let_go()
+    }
+
+    fn linger(&mut self) -> bool {
+        self.keeping.linger()
     }
 
     fn keep(&mut self) -> Result<(), NotKept> {

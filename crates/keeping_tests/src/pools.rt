@@ -26,6 +26,13 @@ impl KeepingHost for Host {
         1_800_000_000
     }
 
+    fn kept(&mut self) {}
+
+    // A batch takes no time here.
+    fn pause(&mut self) -> bool {
+        true
+    }
+
     fn failed(&mut self, _fault: &KeepFault) {
         self.faults = 1;
     }

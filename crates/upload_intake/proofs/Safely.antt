@@ -63,6 +63,11 @@ pub kept_none : (keeper new : KeeperState) (before after : List Exchange) → ne
 kept_none keeper new before after same still =
     record { more = []; log = same ∙ sym (append-nil keeper.log); kept = still ∙ sym (append-nil before) }
 
+-- what is kept may be told in another way
+pub kept_by : (old : KeeperState) (before : List Exchange) (new : KeeperState) (after after' : List Exchange)
+    → KeptSince old before new after → after' ≡ after → KeptSince old before new after'
+kept_by old before new after after' k same = record { more = k.more; log = k.log; kept = same ∙ k.kept }
+
 pub kept_twice : (a b c : KeeperState) (p q r : List Exchange) → KeptSince a p b q → KeptSince b q c r
     → KeptSince a p c r
 kept_twice a b c p q r f g = record {

@@ -34,6 +34,10 @@ impl<K: Keeping> Keeping for &mut K {
         (**self).let_go()
     }
 
+    fn linger(&mut self) -> bool {
+        (**self).linger()
+    }
+
     fn keep(&mut self) -> Result<(), NotKept> {
         (**self).keep()
     }

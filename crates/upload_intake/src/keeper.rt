@@ -24,6 +24,12 @@ use upload_bytes::InThreads;
 use upload_names::{Algorithm, UploadRef};
 use upload_service::{Answer, Ask, GoneChunk, Request, Service, headline_holds};
 
+/// How many messages of each seat a round has at most: it may wish something before it asks.
+const MOST_OF_A_SEAT: usize = 4;
+
+/// How often a keeper lingers at most for the next message of a round.
+const MOST_PAUSES: u32 = 4;
+
 /// What a keeper has, while it runs and when it has ended.
 #[derive(Drop)]
 pub(crate) struct Books {
@@ -94,6 +100,7 @@ impl ReplyLine {
         ensures done { self.new.is_done ≡ self.old.is_done }
         ensures held { Holds answer (outlet_of self.old) (outlet_of self.new) }
     {
+        self.is_expected = false;
         if self.is_crowded {
             return;
         }
@@ -120,6 +127,7 @@ impl ReplyLine {
         if self.is_crowded {
             return None;
         }
+        self.is_expected = self.held.is_some();
         let Some(answer) = self.held.take() else {
             return None;
         };
@@ -237,7 +245,36 @@ impl Keeper {
         }
     }
 
-    // Takes a message, for which it waits, and those that wait already: so many at most.
+    // Takes a message that waits already. If none does, but a seat that was answered in the last round may ask soon, it
+    // lingers a few times.
+    fn turn_soon<R, M, K>(&mut self, rt: &R, moments: &mut M, keeping: &mut K) -> bool
+    where
+        R: Threads + Wait,
+        M: Moments,
+        K: Keeping,
+        requires follows { Follows (K.start keeping.old)
+            (K.kept keeping.old ++ K.waiting keeping.old) (K.last keeping.old) self.old }
+        ensures same { IsSameKeeper self.old self.new }
+        ensures grows { Grows M.tells self.old moments.old self.new moments.new }
+        ensures start { K.start keeping.new ≡ K.start keeping.old }
+        ensures kept { K.kept keeping.new ≡ K.kept keeping.old }
+        ensures follows { Follows (K.start keeping.new)
+            (K.kept keeping.new ++ K.waiting keeping.new) (K.last keeping.new) self.new }
+        ensures since { KeptSince self.old (K.kept keeping.old ++ K.waiting keeping.old)
+            self.new (K.kept keeping.new ++ K.waiting keeping.new) }
+    {
+        for _ in 0..MOST_PAUSES {
+            if self.turn(rt, moments, keeping, false) {
+                return true;
+            }
+            if !linger(&self.books.lines, keeping) {
+                return false;
+            }
+        }
+        false
+    }
+
+    // Takes a message, for which it waits, and those that wait already or come soon: so many at most.
     fn turns<R, M, K>(&mut self, rt: &R, moments: &mut M, keeping: &mut K, most: usize)
     where
         R: Threads + Wait,
@@ -254,8 +291,11 @@ impl Keeper {
         ensures since { KeptSince self.old (K.kept keeping.old ++ K.waiting keeping.old)
             self.new (K.kept keeping.new ++ K.waiting keeping.new) }
     {
-        for taken in 0..most {
-            if !self.turn(rt, moments, keeping, taken == 0) {
+        if !self.turn(rt, moments, keeping, true) {
+            return;
+        }
+        for _ in 1..most {
+            if !self.turn_soon(rt, moments, keeping) {
                 return;
             }
         }
@@ -299,7 +339,7 @@ impl Keeper {
         }
     }
 
-    // Takes a message and those that wait already, at most as many as there are seats. What they changed is kept at
+    // Takes a message and those that wait already or come soon, at most four of each seat. What they changed is kept at
     // once, and their moments are promised, and then each is answered.
     fn round<R, M, K>(&mut self, rt: &R, moments: &mut M, keeping: &mut K) -> Result<(), NotKept>
     where
@@ -320,8 +360,8 @@ impl Keeper {
     {
         // The law over all runs, of which what is kept is one. The call does nothing.
         headline_holds();
-        let seats = self.books.lines.len();
-        self.turns(rt, moments, keeping, seats);
+        let most = self.books.lines.len().saturating_mul(MOST_OF_A_SEAT);
+        self.turns(rt, moments, keeping, most);
         keeping.keep()?;
         self.reply_all(rt, keeping);
         moments.rests(&self.books.service);
@@ -533,6 +573,26 @@ fn changes(answer: &Answer) -> bool
         answer,
         Answer::Begun { .. } | Answer::Taken { .. } | Answer::Stored { .. }
     )
+}
+
+// Waits a moment if a seat that was answered in the last round hasn't asked since. Says whether it waited.
+fn linger<K: Keeping>(lines: &Vec<ReplyLine>, keeping: &mut K) -> bool
+    ensures start { K.start keeping.new ≡ K.start keeping.old }
+    ensures kept { K.kept keeping.new ≡ K.kept keeping.old }
+    ensures waiting { K.waiting keeping.new ≡ K.waiting keeping.old }
+    ensures last { K.last keeping.new ≡ K.last keeping.old }
+{
+    expects_more(lines) && keeping.linger()
+}
+
+// Whether a seat that was answered in the last round hasn't asked since.
+fn expects_more(lines: &Vec<ReplyLine>) -> bool {
+    for seat in 0..lines.len() {
+        if lines[seat].is_expected {
+            return true;
+        }
+    }
+    false
 }
 
 // Whether the finish of each seat was taken.

@@ -16,4 +16,6 @@ pub(crate) struct ReplyLine {
     pub(crate) held: Option<Answer>,
     /// Whether the seat asked again before it heard an answer. It hears nothing more.
     pub(crate) is_crowded: bool,
+    /// Whether the seat was answered in the last round, and hasn't asked since.
+    pub(crate) is_expected: bool,
 }

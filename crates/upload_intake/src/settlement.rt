@@ -59,6 +59,7 @@ pub(crate) fn lines_of(
             is_done: false,
             held: None,
             is_crowded: false,
+            is_expected: false,
         })?;
     }
     Ok((Keeper::new(service, since, jobs, lines), seats))

@@ -129,6 +129,11 @@ impl Keeping for NoKeeping {
 
     fn let_go(&mut self) {}
 
+    // Nothing is kept the faster for it.
+    fn linger(&mut self) -> bool {
+        false
+    }
+
     fn keep(&mut self) -> Result<(), NotKept> {
         self.kept = self.kept.and(&self.waiting);
         self.waiting = History::none();

@@ -8,8 +8,16 @@ pub trait KeepingHost {
     // Holds of the state before, the fault that is told, and the state after.
     ghost hears: { Self → KeepFault → Self → Type 0 };
 
-    /// The time of day, in seconds since 1970. A batch has it for its reader: nothing else rests on it.
+    /// The time of day, in seconds since 1970, as a batch is about to be kept. It has that for its reader: nothing else
+    /// rests on it.
     fn time(&mut self) -> u64;
+
+    /// The batch is kept.
+    fn kept(&mut self);
+
+    /// Waits, so that more may come that is kept with what is due, if that is short beside what it takes to keep a batch.
+    /// Says whether it did.
+    fn pause(&mut self) -> bool;
 
     /// Something was not kept, for this reason. Nobody hears an answer of that round or of a later one.
     fn failed(&mut self, fault: &KeepFault)

@@ -117,6 +117,10 @@ impl<D: Disk, S: Shelf, H: KeepingHost> Keeping for StoreKeeping<D, S, H> {
         }
     }
 
+    fn linger(&mut self) -> bool {
+        self.books.is_due() && self.host.pause()
+    }
+
     /// The host is told what was not kept. So it is by each call from then on, which fails too.
     fn keep(&mut self) -> Result<(), NotKept>
         requires { IsSafe (start_of self.old) (kept_of self.old ++ waiting_of self.old) }
@@ -138,7 +142,10 @@ impl<D: Disk, S: Shelf, H: KeepingHost> Keeping for StoreKeeping<D, S, H> {
         let time = self.host.time();
         self.books.keep(time);
         match &self.books.fault {
-            None => Ok(()),
+            None => {
+                self.host.kept();
+                Ok(())
+            }
             Some(fault) => {
                 self.host.failed(fault);
                 Err(NotKept)

@@ -135,6 +135,10 @@ impl<'a> Keeping for Remembers<'a> {
 
     fn let_go(&mut self) {}
 
+    fn linger(&mut self) -> bool {
+        self.added > 0
+    }
+
     fn keep(&mut self) -> Result<(), NotKept> {
         if self.added > 0 {
             let Some(times) = self.times.checked_sub(1) else {

@@ -22,6 +22,7 @@ loop-seat-preserved c =
       is_done = false;
       held = None;
       is_crowded = false;
+      is_expected = false;
     } in
     let m = length-append c.loop-seat.lines.items (line ∷ []) in
     let here = c.new.ensures in

@@ -4,8 +4,8 @@ use Rattle.upload_intake.specs.Safety.{Follows, KeptSince}
 use Rattle.upload_intake.specs.Told.{Grows}
 use Rattle.upload_intake.proofs.keeper.Keeper.turns.Given as goal
 
-abbrev pub invariant-loop-taken : goal.invariant-loop-taken
-invariant-loop-taken g l = record {
+abbrev pub invariant-loop : goal.invariant-loop
+invariant-loop g l = record {
   same : IsSameKeeper l.fn.self l.self;
   grows : Grows g.M.Moments.tells l.fn.self l.fn.moments l.self l.moments;
   start : g.K.Keeping.start l.keeping ≡ g.K.Keeping.start l.fn.keeping;
