@@ -388,7 +388,10 @@ def other_directories(folder):
         ("other limits", lambda: changed(journal, LIMIT, LIMIT[::-1]),
          "other limits"),
         ("no bodies", lambda: shutil.rmtree(f"{folder}/bad/bodies"), "its bodies are missing; put them back, or move it away"),
-        ("no journal", lambda: os.remove(f"{folder}/bad/journal"), "its journal is missing; put that back, or move it away"),
+        ("no journal", lambda: os.remove(journal), "its journal is missing; put that back, or move it away"),
+        ("a journal of another name", lambda: os.rename(journal, f"{journal}.new"), "its journal is missing"),
+        ("an empty journal beside one", lambda: shutil.copy2(journal, f"{journal}.new") and os.truncate(journal, 0),
+         "its journal is empty"),
     ]
     for name, spoil, word in cases:
         shutil.copytree(good, f"{folder}/bad")

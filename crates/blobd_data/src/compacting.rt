@@ -100,7 +100,7 @@ impl<'a> fmt::Display for CompactText<'a> {
 
 /// What room was made.
 #[derive(Clone, Copy, Debug, Drop, PartialEq, Eq)]
-pub struct Room {
+pub struct Freed {
     /// How many records the journal had, and has now.
     pub before: u64,
     pub after: u64,
@@ -110,9 +110,9 @@ pub struct Room {
     pub pairs: Option<u64>,
 }
 
-impl fmt::Display for Room {
+impl fmt::Display for Freed {
     fn fmt<W: fmt::Write>(&self, f: &mut fmt::Formatter<W>) -> fmt::Result {
-        let Room {
+        let Freed {
             before,
             after,
             files,
@@ -271,7 +271,7 @@ pub fn compact_data<R: Threads, J: Start, N: Start, S: Start, H: Holds>(
     start: J,
     fresh_start: N,
     leaving: Option<&Leaving>,
-) -> Result<Room, CompactingFault>
+) -> Result<Freed, CompactingFault>
     requires lawful { AreLawful limits }
     requires empty { S.Start.db ≡ [] }
 {
@@ -310,7 +310,7 @@ fn compact_in<R: Threads, J: Start, N: Start, S: Start, H: Holds>(
     start: J,
     fresh_start: N,
     leaving: Option<&Leaving>,
-) -> Result<Room, CompactingFault>
+) -> Result<Freed, CompactingFault>
     requires lawful { AreLawful limits }
     requires empty { S.Start.db ≡ [] }
 {
@@ -349,7 +349,7 @@ fn compact_in<R: Threads, J: Start, N: Start, S: Start, H: Holds>(
     } else {
         (sweep_by(rt, old, shelf)?, before)
     };
-    Ok(Room {
+    Ok(Freed {
         before,
         after,
         files,

@@ -21,7 +21,7 @@ mod texts;
 mod weighing;
 mod worth;
 
-pub use compacting::{CompactingFault, Room, compact_data};
+pub use compacting::{CompactingFault, Freed, compact_data};
 pub use fault::DataFault;
 pub use fitting::stored_beyond;
 pub use host::{Teller, seconds_now};

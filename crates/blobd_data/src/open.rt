@@ -140,14 +140,20 @@ fn refuse_others(rt: &HostRuntime, folder: &Folder) -> Result<(), DataFault> {
     }
 }
 
-/// What the journal of a folder is called as it is opened: one that isn't there is begun afresh. What was left of a new
-/// one that didn't take its place goes.
+/// What the journal of a folder is called as it is opened: one that isn't there is begun afresh.
 fn name_of_journal(rt: &HostRuntime, folder: &Folder) -> Result<&'static str, OpenFault> {
-    folder.remove(rt, FRESH)?;
     if lacks(rt, folder, JOURNAL)? {
         return Ok(FRESH);
     }
     Ok(JOURNAL)
+}
+
+/// Removes what is left of a new journal that didn't take its place.
+fn remove_fresh(rt: &HostRuntime, folder: &Folder) -> Result<(), DataFault> {
+    match folder.remove(rt, FRESH) {
+        Ok(()) => Ok(()),
+        Err(error) => Err(DataFault::Journal(OpenFault::from(error))),
+    }
 }
 
 /// Has a journal that was begun afresh take its name.
@@ -334,12 +340,17 @@ where
         Ok(name) => name,
         Err(fault) => return Err(DataFault::Journal(fault)),
     };
+    // A folder that is refused keeps `FRESH`, which may be its journal under another name.
     if name == FRESH {
         refuse_bodies(rt, &mut open_shelf::<S, H>(rt, folder)?)?;
+        remove_fresh(rt, folder)?;
     }
     let mut file = open_journal(rt, folder, name, start)?;
     let mut shelf = open_shelf(rt, folder)?;
     refuse_cut(rt, &mut file, &mut shelf)?;
+    if name != FRESH {
+        remove_fresh(rt, folder)?;
+    }
     let mut journal = Journal::new(file, line_of(limits));
     let mut repairs = Repairs {
         mended: 0,

@@ -3,7 +3,7 @@ ghost use Rattle.std.specs.Prelude.{◌≡◌, ◌↔◌, [], IsTrue};
 ghost use Rattle.upload_service.specs.Machine.{AreLawful};
 ghost use Rattle.blobd_data.specs.Worth.{IsWorth};
 
-use crate::compacting::{CompactingFault, Room, compact_data, length_of};
+use crate::compacting::{CompactingFault, Freed, compact_data, length_of};
 use crate::open::{FRESH, JOURNAL};
 use crate::weighing::weigh_records;
 use bodies::Holds;
@@ -55,7 +55,7 @@ pub fn compact_if_worth<R: Threads, L: Start, J: Start, N: Start, S: Start, H: H
     looked: L,
     start: J,
     fresh_start: N,
-) -> Result<Option<Room>, CompactingFault>
+) -> Result<Option<Freed>, CompactingFault>
     requires lawful { AreLawful limits }
     requires empty { S.Start.db ≡ [] }
 {
