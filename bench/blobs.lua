@@ -1,22 +1,29 @@
 -- Stores distinct small blobs by an opening and a close each: wrk --threads N --connections N --script blobs.lua URL
 -- DIGESTS N, where line I of the file DIGESTS has the digest of blob I. Each of the N threads has a connection and
 -- every Nth blob. The last line printed has the blobs stored and the seconds that they took.
-local CONTENT_WORDS, threads = 128, 0
-local digests, at, place = {}, 0, nil
+local CONTENT_WORDS, LINE_LEN, threads = 128, 72, 0
+local digests, number, step, place
 
 function setup(thread)
   thread:set("first", threads)
   threads = threads + 1
 end
 
+-- It reads no digest yet: the first threads send requests while wrk prepares the others, before its time begins.
 function init(words)
-  local number = 0
-  for digest in io.lines(words[1]) do
-    if number % tonumber(words[2]) == first then
-      digests[#digests + 1] = { number, digest }
-    end
-    number = number + 1
+  digests, number, step = assert(io.open(words[1])), first, tonumber(words[2])
+end
+
+-- The number and the digest of the next blob; once all are stored, the first ones come again.
+local function next_blob()
+  digests:seek("set", number * LINE_LEN)
+  local digest = digests:read()
+  if not digest then
+    number = first
+    return next_blob()
   end
+  number = number + step
+  return number - step, digest
 end
 
 -- The bytes of a number, the highest first, again and again.
@@ -32,11 +39,9 @@ function request()
   if not place then
     return wrk.format("POST", "/v2/lib/a/blobs/uploads/", { ["Content-Length"] = "0" })
   end
-  -- (once all are stored, the first ones come again)
-  local number, digest = unpack(digests[at % #digests + 1])
-  at = at + 1
+  local blob, digest = next_blob()
   local target = place .. (place:find("?", 1, true) and "&" or "?") .. "digest=" .. digest
-  return wrk.format("PUT", target, nil, content(number))
+  return wrk.format("PUT", target, nil, content(blob))
 end
 
 function response(status, fields)

@@ -2,6 +2,7 @@
 """Figures of `blobd serve` with a data directory, beside itself without one and docker-registry on the same disk.
 
     disk.py PROGRAM [--folder FOLDER] [--mib SIZE] [--blobs COUNT] [--runs N] [--starts] [--start-gib GIB] [--small COUNT]
+    disk.py PROGRAM --syncs MICROSECONDS.. [--runs N]
 
 The servers take turns, each run with a new server and a new folder in FOLDER, which should be on a disk and not in
 memory. A figure is the best of the runs. Uploads are compared with `sha256sum` on the same bytes, in the same runs; small
@@ -14,6 +15,11 @@ the same. A start is that of a server with a directory that has eight blobs of S
 holds in memory. `blobd compact` has eight blobs of SIZE in one body each, or twenty times COUNT small ones, or as many as
 `--small` says. It is measured beside a start with them, and what it writes of the small ones beside the same bytes written
 one behind another, with a sync at their end, in the same run. `--starts` measures no more than starts and compactions.
+
+`--syncs` measures no more than small blobs by clients of wrk, with a directory in memory and syncs that take so long
+(tests/shims/slow.c): beside two such syncs for each round of all clients, and with how many changes a round of the
+server had. It needs wrk and cc.
+
 Needs Linux.
 """
 import collections
@@ -31,7 +37,7 @@ import time
 import loopback
 import raw
 import servers
-from harness import running
+from harness import running, shims
 from harness.running import MIB
 from harness.suite import OPTIONS
 
@@ -44,6 +50,8 @@ BESIDE, BEFORE_A_START = 4, 8
 COMPACTED = 20
 CHUNK = 4 * MIB
 SECTOR = 4_096
+# the head of a batch of a journal
+HEAD_LEN = 32
 # what wrk runs, for how many seconds, and how many blobs there are for it, more than are stored meanwhile
 WRK_SCRIPT = os.path.join(os.path.dirname(os.path.abspath(__file__)), "blobs.lua")
 WRK_SECONDS, WRK_BLOBS = 2, 200_000
@@ -150,8 +158,8 @@ def digests():
     return "".join(f"{small_blob(number)[1]}\n" for number in range(WRK_BLOBS))
 
 
-def small_blobs_by_wrk(count, clients, server):
-    """The same by clients of wrk, from how many they store in its time."""
+def stored_by_wrk(clients, server):
+    """How many small blobs so many clients of wrk store in its time, and the seconds that they took."""
     with server, tempfile.NamedTemporaryFile("w") as file:
         file.write(digests())
         file.flush()
@@ -162,6 +170,12 @@ def small_blobs_by_wrk(count, clients, server):
     stored, taken, faults = map(float, told.split()[-3:])
     if faults:
         sys.exit(f"wrk: {told}")
+    return stored, taken
+
+
+def small_blobs_by_wrk(count, clients, server):
+    """The seconds in which clients of wrk store so many, from how many they store in its time."""
+    stored, taken = stored_by_wrk(clients, server)
     return taken * count / stored
 
 
@@ -362,6 +376,43 @@ def all_compactions(settings, blob):
     yield ["what that writes", "blobd compact", f"{one.size / one.taken / 1e6:,.0f} MB/s", beside]
 
 
+def rounds_of(data):
+    """How many batches the journal of a directory has, one for each round: each is behind the sector of its open gate,
+    and the third number of its head is the length of its records."""
+    at, count = SECTOR, 0
+    with open(os.path.join(data, "journal"), "rb") as file:
+        while os.pread(file.fileno(), 1, at) == b"\1":
+            length = int.from_bytes(os.pread(file.fileno(), 8, at + SECTOR + 16), "big")
+            at += SECTOR + -(-(HEAD_LEN + length) // SECTOR) * SECTOR
+            count += 1
+    return count
+
+
+def with_slow_syncs(settings):
+    """Small blobs by clients of wrk, with a directory in memory and syncs that each take as long as is said."""
+    for micros in OPTIONS.syncs:
+        best = []
+        for _ in range(OPTIONS.runs):
+            with tempfile.TemporaryDirectory(dir="/dev/shm") as folder:
+                server = OnDisk(settings | shims.loaded(folder, "slow", SYNC_MICROS=micros), folder)
+                stored, taken = stored_by_wrk(CROWD, server)
+                # a blob is an opening and a close
+                best.append((stored / taken, 2 * stored / rounds_of(server.settings["BLOBD_DATA"])))
+        speed, changes = max(best)
+        # two rounds for a blob of each client, of two syncs each
+        beside = f"{speed * 4 * micros / 1e6 / CROWD:.2f} of the syncs alone, {changes:.1f} changes a round"
+        yield [f"{CROWD} clients, syncs of {micros} us", OnDisk.name, f"{speed:,.0f} a second", beside]
+
+
+def tell(lines):
+    told = []
+    for line in lines:
+        # each is told as soon as it is measured
+        print("measured:", *line, sep="  ", file=sys.stderr, flush=True)
+        told.append(line)
+    raw.print_table(["row", "server", "speed", "beside"], told)
+
+
 def main(settings):
     all_ = [OnDisk(settings), InMemory(settings)]
     if not servers.missing("docker-registry"):
@@ -369,12 +420,7 @@ def main(settings):
     with tempfile.TemporaryDirectory(dir="/dev/shm") as folder:
         blob = loopback.Blob(os.path.join(folder, "blob"), OPTIONS.mib * MIB)
         blob.write()
-        lines = []
-        for line in all_lines(settings, all_, blob):
-            # each is told as soon as it is measured
-            print("measured:", *line, sep="  ", file=sys.stderr, flush=True)
-            lines.append(line)
-    raw.print_table(["row", "server", "speed", "beside"], lines)
+        tell(all_lines(settings, all_, blob))
 
 
 if __name__ == "__main__":
@@ -389,6 +435,12 @@ if __name__ == "__main__":
     parser.add_argument("--starts", action="store_true", help="measure starts and compactions alone")
     parser.add_argument("--start-gib", type=int, default=0, help="a start with so many GiB more (none)")
     parser.add_argument("--small", type=int, default=0, help="how many small blobs are compacted (twenty times COUNT)")
+    parser.add_argument("--syncs", type=int, nargs="+", metavar="MICROSECONDS", help="small blobs alone, by such syncs")
     parser.parse_args(namespace=OPTIONS)
     OPTIONS.program, OPTIONS.folder = map(os.path.abspath, (OPTIONS.program, OPTIONS.folder))
-    main(servers.MALLOC)
+    if not OPTIONS.syncs:
+        main(servers.MALLOC)
+    elif missing := servers.missing("wrk", "cc"):
+        sys.exit(f"not installed: {', '.join(missing)}")
+    else:
+        tell(with_slow_syncs(servers.MALLOC))

@@ -1,5 +1,5 @@
 """The small libraries of tests/shims/, which are loaded before the C library: they refuse a process memory, threads or
-accepts, let its time pass sooner, or note what it does."""
+accepts, let its time pass sooner, make its syncs slow, or note what it does."""
 import os
 
 from . import TOP, running
