@@ -105,7 +105,7 @@ static ROWS: [Row; 17] = [
         None,
     ),
     ("PUT", UPLOAD, "", "", Framed::Chunked(3), None),
-    ("PUT", UPLOAD, DIGEST, "", Framed::Sized(3), None),
+    ("PUT", UPLOAD, DIGEST, "", Framed::Sized(3), SHA256),
 ];
 
 /// The request of a row.
