@@ -43,7 +43,7 @@ MALLOC = GLIBC_TUNABLES=glibc.malloc.hugetlb=1:glibc.malloc.mmap_threshold=10485
 .DELETE_ON_ERROR:
 
 help:
-	@echo 'make try      a whole upload over one connection, by an interpreter and without proof: each request beside its reply, in a minute or two'
+	@echo 'make try      a whole upload over one connection, by an interpreter and without proof: each request beside its reply, in two or three minutes'
 	@echo 'make once     the same by the proved program, `blobd once`'
 	@echo 'make serve    the service at $(ADDR), until it is interrupted (ADDR=.. another address, WORKERS=.. connections at a time, COUNT=.. so many of each worker,'
 	@echo '              DATA=.. the folder in which it keeps what it has)'
@@ -78,7 +78,7 @@ help:
 	@echo '              folder: twenty minutes, and 11 GB of disk (docs/PERFORMANCE.md)'
 
 try:
-	@echo 'Unproved: this interprets the program as it stands, in a minute or two. `make once` proves it first.' >&2
+	@echo 'Unproved: this interprets the program as it stands, in two or three minutes. `make once` proves it first.' >&2
 	@cd crates/blobd && python3 ../../tools/conversation.py rt try -- once
 
 once: $(EVERY)
