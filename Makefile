@@ -105,7 +105,7 @@ upload: built
 
 .PHONY: built
 built:
-	@test -n '$(BUILT)' || { echo 'Nothing is built yet. make build proves and builds the program: 30 to 60 minutes from nothing on four cores.' >&2; exit 1; }
+	@test -n '$(BUILT)' || { echo 'Nothing is built yet. make build proves and builds the program: 30 to 60 minutes from nothing on four cores; or name one that is built: PROGRAM=FILE' >&2; exit 1; }
 
 build: $(EVERY)
 	@echo '$(EVERY)'
@@ -117,7 +117,7 @@ $(EVERY): $(SOURCES)
 $(V3): $(SOURCES)
 	@python3 tools/build.py --cpu=x86-64-v3
 
-# The packages first: what is missing is told before the program is built.
+# The packages and the addresses first: what is missing or taken is told before the program is built.
 registry:
 	@python3 deploy/registry.py --packages $(if $(DATA),'$(DATA)')
 ifneq ($(MADE),)

@@ -5,7 +5,8 @@
 
 REGISTRY is HOST:PORT, or http://HOST:PORT if it speaks no TLS. The login is a file with one line, USER:PASSWORD. The
 registry's certificate is signed by one in the file of --ca, or by one that the system trusts. `blobd push` then pushes
-to the address, which is 127.0.0.1:5090 if none is told. Exit status 1 if something is missing or doesn't answer.
+to the address, which is 127.0.0.1:5090 if none is told. Exit status 1 if something is missing or doesn't answer, or
+another program has the address.
 """
 import argparse
 import contextlib
@@ -186,6 +187,8 @@ def main(words):
         return 2
     if servers.missing("haproxy"):
         print("make adapter needs Debian's package: apt-get install --no-install-recommends haproxy")
+        return 1
+    if servers.any_taken({"ADAPTER": told.at}):
         return 1
     return servers.until_interrupted("adapter", lambda folder: serve(told, folder))
 

@@ -2,13 +2,13 @@
 """A registry to try, on the loopback address: one blobd behind HAProxy, with TLS and a login, until it is interrupted.
 
     registry.py PROGRAM [DIR]       starts it, and says how an image is pushed and pulled
-    registry.py --packages [DIR]    only says which of Debian's packages are missing
+    registry.py --packages [DIR]    only says which of Debian's packages are missing, or which address is taken
 
 With DIR it keeps all that it has in that folder: blobs, manifests and tags (by Redis, beside it), the login and the
 certificate. The next one with DIR goes on with them. Without DIR all that it makes is in a folder, which it removes at
 its end.
 
-Exit status 1 if something is missing or doesn't start.
+Exit status 1 if something is missing or doesn't start, or another program has an address.
 """
 import contextlib
 import os
@@ -113,7 +113,7 @@ def main(words):
         print(__doc__)
         return 2
     kept = words[1] if len(words) == 2 else None
-    if lacks_packages(kept):
+    if lacks_packages(kept) or servers.any_taken({"FRONT_TLS": TLS, "BLOBD_1": BLOBD}):
         return 1
     if words[0] == "--packages":
         return 0

@@ -5,6 +5,7 @@ program that started it is killed.
 """
 import contextlib
 import ctypes
+import errno
 import glob
 import ipaddress
 import math
@@ -24,6 +25,8 @@ PATH = os.environ.get("PATH", "") + os.pathsep + "/usr/sbin" + os.pathsep + "/sb
 # one heap.
 MALLOC = {"GLIBC_TUNABLES": "glibc.malloc.hugetlb=1:glibc.malloc.mmap_threshold=1048576:glibc.malloc.arena_max=1"}
 PATIENCE = 60
+# how long the servers of a registry that has just been killed may still have their addresses, in seconds
+GOING = 3
 # how many lines of a log are shown
 LINES = 10
 DIES_WITH_PARENT = 1
@@ -59,6 +62,35 @@ def is_address(host):
     except ValueError:
         return False
     return True
+
+
+def is_taken(address):
+    """Whether another program has it. HAProxy doesn't notice, and shares it with another HAProxy: so it is asked for
+    alone (no SO_REUSEPORT), but beside connections that have ended (SO_REUSEADDR)."""
+    host, port = place(address)
+    try:
+        with socket.socket(socket.AF_INET6 if ":" in host else socket.AF_INET) as probe:
+            probe.setsockopt(socket.SOL_SOCKET, socket.SO_REUSEADDR, 1)
+            probe.bind((host, port))
+    except (OSError, OverflowError) as fault:
+        # who is to listen there says what else is wrong
+        return getattr(fault, "errno", None) == errno.EADDRINUSE
+    return False
+
+
+def any_taken(addresses):
+    """Says which of these addresses another program has, with the variable of `make` that names each, and whether one
+    does."""
+    end = time.monotonic() + GOING
+    # an interrupt ends the wait
+    with contextlib.suppress(KeyboardInterrupt):
+        while any(map(is_taken, addresses.values())) and time.monotonic() < end:
+            time.sleep(0.05)
+    taken = [name for name, address in addresses.items() if is_taken(address)]
+    for name in taken:
+        what = f"can't listen at {addresses[name]}: another program has it (ss -ltnp shows which)"
+        print(f"{what}; {name}=127.0.0.1:PORT names another address", file=sys.stderr)
+    return bool(taken)
 
 
 def leave_with_parent():

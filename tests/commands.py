@@ -46,6 +46,8 @@ def test_wrong_counts_are_refused_before_anything_is_built():
 def test_nothing_is_built_by_run_and_upload():
     for target in ("run", "upload"):
         is_told(f"make {target}", [target, "BUILT="], "Nothing is built yet.")
+        told, _ = make(target, "BUILT=")
+        check(f"make {target} names another way", "or name one that is built: PROGRAM=FILE\n" in told, told)
 
 
 @case()

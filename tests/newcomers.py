@@ -48,8 +48,8 @@ def the_adapter_names_a_file_that_it_cannot_read(folder):
     causes = {none: "No such file or directory", folder: "Is a directory", binary: "it is no text"}
     for variable in ("LOGIN", "CA"):
         for path, why in causes.items():
-            words = ["--no-print-directory", "adapter", "REGISTRY=127.0.0.1:1", f"{variable}={path}"]
-            told = finished(["make", *words], cwd=TOP)
+            words = ["REGISTRY=127.0.0.1:1", f"ADAPTER={servers.free_address()}", f"{variable}={path}"]
+            told = finished(["make", "--no-print-directory", "adapter", *words], cwd=TOP)
             line = told.stderr.splitlines()[0]
             equal(f"{variable}: {why}", (told.returncode, line), (2, f"{variable}={path} can't be read: {why}"))
 

@@ -135,6 +135,22 @@ def the_adapter_names_the_cause(folder):
 
 
 @case(*PROXY)
+def an_address_that_another_adapter_has(folder):
+    """HAProxy would share it, and pushes would go to either registry: it is refused before anything is begun."""
+    rest = os.path.join(folder, "rest")
+    os.mkdir(rest)
+    none = b"HTTP/1.1 404 None\r\nContent-Length: 0\r\nConnection: close\r\n\r\n"
+    with Scripted([none]) as registry, servers.Adapter(folder, registry.addr) as one:
+        words = [f"REGISTRY=http://{registry.addr}", f"ADAPTER={one.address}"]
+        ran = finished(["make", "--no-print-directory", "adapter", *words], cwd=TOP, env={"TMPDIR": rest})
+        line = f"can't listen at {one.address}: another program has it (ss -ltnp shows which); "
+        line += "ADAPTER=127.0.0.1:PORT names another address"
+        equal("its line", (ran.returncode, ran.stdout, ran.stderr.splitlines()[0]), (2, "", line))
+        equal("what the registry was asked", registry.asked, [])
+    equal("what is left", os.listdir(rest), [])
+
+
+@case(*PROXY)
 def a_wait_of_the_adapter_is_told():
     """A registry that takes a connection and says nothing: within five seconds it is told what is waited for."""
     with socket.create_server(("127.0.0.1", 0), backlog=50) as listener:

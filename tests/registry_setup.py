@@ -16,7 +16,7 @@ import sys
 
 from harness import TOP
 from harness.registry import IMAGE_PUSHED, LOGIN, PROXY, Client, push_image
-from harness.running import finished, told_by
+from harness.running import finished, has_ipv6, told_by
 from harness.suite import OPTIONS, case, check, equal, lacks, main, skip
 from harness.wire import PATIENCE, sha256
 import servers
@@ -131,12 +131,36 @@ def the_newcomers_registry():
             check(f"nobody listens on {address}", probe.connect_ex(servers.place(address)) != 0)
 
 
+def made_registry(tls, store, *words, **options):
+    """A run of `make registry` at these addresses that ends by itself."""
+    words = ["make", "--no-print-directory", "registry", f"FRONT_TLS={tls}", f"BLOBD_1={store}", *words]
+    return finished(words, cwd=TOP, **options)
+
+
 @case(*PROXY)
 def a_registry_without_a_program(folder):
     """`make registry PROGRAM=..` says what is wrong with what it is told."""
     for program in ("/nowhere/blobd", folder, __file__):
-        ran = finished(["make", "--no-print-directory", "registry", f"PROGRAM={program}"], cwd=TOP)
+        ran = made_registry(servers.free_address(), servers.free_address(), f"PROGRAM={program}")
         check(f"PROGRAM={program}", ran.returncode == 2 and ran.stderr.startswith(f"{program} is no program: "), ran)
+
+
+@case()
+def which_addresses_are_taken():
+    """Those at which somebody listens, also at all of the machine's; not those of a connection that has ended."""
+    with socket.create_server(("0.0.0.0", 0)) as listener:
+        taken = f"127.0.0.1:{listener.getsockname()[1]}"
+        check("one of all", servers.is_taken(taken))
+        with socket.create_connection(servers.place(taken)) as client:
+            # who closes first keeps the address for a while
+            listener.accept()[0].close()
+            equal("the end of the connection", client.recv(1), b"")
+    check("one of a connection that has ended", not servers.is_taken(taken))
+    for address in ("127.0.0.1:99999", "registry.invalid:5443", "192.0.2.1:5443", "[::1]:0", ":0"):
+        check(f"{address} isn't another program's", not servers.is_taken(address))
+    if has_ipv6():
+        with socket.create_server(("::1", 0), family=socket.AF_INET6) as listener:
+            check("one of IPv6", servers.is_taken(f"[::1]:{listener.getsockname()[1]}"))
 
 
 @case()
@@ -210,6 +234,28 @@ def a_registry_that_keeps(folder):
             ended = registry.wait(timeout=PATIENCE), rest.split(",")[0]
             wanted = (1, "blobd ended: it was killed by SIGKILL") if is_killed else (0, "ended")
             equal("it says how it ended", ended, wanted)
+
+
+@case(*PROXY, "redis-server")
+def a_registry_beside_another(folder):
+    """`make registry` is refused before anything is begun if another one runs, whose address HAProxy would share. If
+    the other one was just killed, it waits until it is gone."""
+    tls, store = servers.free_address(), servers.free_address()
+    path, rest = os.path.join(folder, "kept"), os.path.join(folder, "rest")
+    os.mkdir(rest)
+    with newcomers_registry(tls, store) as (registry, _):
+        words = [f"PROGRAM={OPTIONS.program}", f"DATA={path}"]
+        ran = made_registry(tls, store, *words, env={"TMPDIR": rest})
+        wanted = [
+            f"can't listen at {address}: another program has it (ss -ltnp shows which); "
+            f"{name}=127.0.0.1:PORT names another address"
+            for name, address in (("FRONT_TLS", tls), ("BLOBD_1", store))
+        ]
+        equal("its lines", (ran.returncode, ran.stdout, ran.stderr.splitlines()[:2]), (2, "", wanted))
+        equal("what is left", (os.path.exists(path), os.listdir(rest)), (False, []))
+        os.kill(program_of(registry.pid, "blobd"), signal.SIGKILL)
+        with newcomers_registry(tls, store) as (_, lines):
+            told_lines(lines)
 
 
 # Before the lines that set all up in docs/OPERATIONS.md.
