@@ -23,6 +23,7 @@ import servers
 
 ADDRESS = "127.0.0.1:5090"
 FORM = re.compile(r"(http://)?([^/]+:[0-9]+)/?")
+PLACE = re.compile(r"[^/]+:[0-9]+")
 # how long the registry may take for a connection, and then for each part of a reply, in seconds
 PATIENCE = 10
 # a wait is told behind so many
@@ -184,6 +185,9 @@ def main(words):
     told = words_of(words)
     if not FORM.fullmatch(told.registry):
         print(f"{told.registry} is no registry's HOST:PORT", file=sys.stderr)
+        return 2
+    if not PLACE.fullmatch(told.at):
+        print(f"ADAPTER={told.at} is no HOST:PORT, as {ADDRESS}", file=sys.stderr)
         return 2
     if servers.missing("haproxy"):
         print("make adapter needs Debian's package: apt-get install --no-install-recommends haproxy")

@@ -38,6 +38,8 @@ def the_adapter_wants_a_registry():
     words = [sys.executable, os.path.join(TOP, "deploy", "adapter.py"), "registry.example"]
     told = finished(words)
     check("a registry without a port", told.returncode == 2 and "HOST:PORT" in told.stderr, told)
+    told = finished([*words[:-1], "registry.example:5443", "--at=5951"])
+    check("an adapter without a host", told.returncode == 2 and "ADAPTER=5951 is no HOST:PORT" in told.stderr, told)
 
 
 @case(*PROXY)
