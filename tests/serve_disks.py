@@ -66,7 +66,7 @@ def has_failed(name, server):
     """Checks that a server ends soon, though nobody asks it for anything more, and says why."""
     begun = time.monotonic()
     equal(f"{name}: how it ends", server.ended(), REFUSED)
-    check(f"{name}: it ends soon", time.monotonic() - begun < 10)
+    check(f"{name}: it ends soon", time.monotonic() - begun < 20)
     told = server.told(60)
     check(f"{name}: what failed is told", FAILED.fullmatch(told), told)
 
