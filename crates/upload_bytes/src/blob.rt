@@ -10,6 +10,7 @@ use crate::received::Received;
 use crate::room::Grant;
 use crate::segments::{Segments, size_of};
 use crate::shared::BlobBytes;
+use crate::shares::Shares;
 use std::alloc::{AllocError, Global};
 use std::marker::Model;
 use upload_names::Bytes;
@@ -178,6 +179,17 @@ impl Blob {
             Shape::Small(bytes) => bytes.len() as u64,
             Shape::One(last) => last.as_slice().len() as u64,
             Shape::Several(several) => len_of(several),
+        }
+    }
+
+    /// Has shares of its parts kept, of those that stay as they are.
+    pub fn keep_in(&self, shares: &mut Shares) {
+        match &self.shape {
+            Shape::Small(_) | Shape::One(_) => {}
+            Shape::Several(several) => {
+                shares.add(several.before.settled());
+                shares.add(several.parts.as_slice());
+            }
         }
     }
 

@@ -18,6 +18,7 @@ use crate::part::{Part, share_all, take_in};
 use crate::prefix_hash::PrefixHash;
 use crate::room::{Grant, Room};
 use crate::segments::Segments;
+use crate::shares::Shares;
 use crate::spool::SyncedFile;
 use sha2::{Digest, Sha256, Sha512};
 use std::alloc::{AllocError, Global};
@@ -226,6 +227,11 @@ impl Body {
             Algorithm::Sha256 => BlobDigest::of_hashed(sha256_of(self)),
             Algorithm::Sha512 => BlobDigest::of_hashed_512(sha512_of(self)),
         }
+    }
+
+    /// Has shares of its parts kept.
+    pub fn keep_in(&self, shares: &mut Shares) {
+        shares.add(self.pieces.parts.as_slice());
     }
 
     /// Where its parts are listed, for who shares it.

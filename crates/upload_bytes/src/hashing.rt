@@ -9,6 +9,7 @@ ghost use Rattle.upload_bytes.specs.Spools.{HasIfAny};
 use crate::filing::PrefixFile;
 use crate::part::{Part, share_all, take_in};
 use crate::segments::size_of;
+use crate::shares::Shares;
 use crate::spool::{Spool, SyncedFile};
 use crate::thread_end::ThreadEnd;
 use sha2::{Digest, Sha256, Sha512};
@@ -185,6 +186,11 @@ pub trait HashPlace {
         let _ = last;
         None
     }
+
+    /// Lets shares of parts go, and their bytes if nobody else owns them.
+    fn let_go(&self, shares: Shares) {
+        drop(shares);
+    }
 }
 
 /// Here, at once.
@@ -227,6 +233,14 @@ impl<'a, R: Threads> HashPlace for InThreads<'a, R> {
         match share_all(alloc, parts) {
             Ok(shares) => hash_beside(self.0, alloc, hash, shares),
             Err(AllocError) => Hashing::Here(hash.with_parts(parts)),
+        }
+    }
+
+    fn let_go(&self, shares: Shares) {
+        if shares.are_worth_a_thread() {
+            let thread = thread::Builder::new().stack_size(STACK);
+            // Without a thread they have gone here.
+            let _ = thread.spawn(self.0, move || drop(shares));
         }
     }
 }

@@ -5,7 +5,7 @@
 //! comes too, into a file of a spool (`spool`, `filing`). What an upload received
 //! (`received`) are the parts of its bodies, one after another (`segments`), with hashes that catch up with them
 //! (`prefix_hash`). A body may be hashed behind that (`front`). A blob (`blob`) is kept in the parts that it arrived in,
-//! and is handed out in them (`shared`). What there is no room for is let go as it comes (`gone`). So are the bytes of an
+//! and is handed out in them (`shared`). What many bytes are let go of goes in a thread (`shares`). What there is no room for is let go as it comes (`gone`). So are the bytes of an
 //! upload (`upload`) for which others need the room: of these the length and the hashes are left (`digested`).
 #![tactic(auto)]
 
@@ -24,6 +24,7 @@ mod room;
 mod same;
 mod segments;
 mod shared;
+mod shares;
 mod spool;
 mod thread_end;
 mod upload;
@@ -40,6 +41,7 @@ pub use part::Part;
 pub use received::Received;
 pub use room::{Grant, Room};
 pub use shared::BlobBytes;
+pub use shares::Shares;
 pub use spool::{Spool, SpoolFile, SyncedFile};
 pub use thread_end::ThreadEnd;
 pub use upload::Upload;

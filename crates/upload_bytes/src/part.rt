@@ -59,6 +59,11 @@ impl Part {
         Ok(Part { bytes })
     }
 
+    /// Whether nobody else owns them.
+    pub(crate) fn has_one_owner(&self) -> bool {
+        Arc::strong_count(&self.bytes) == 1
+    }
+
     /// Whether a room counts them.
     pub(crate) fn is_limited(&self) -> bool {
         self.bytes.is_limited()

@@ -16,6 +16,7 @@ use crate::part::{Part, share_all, share_into};
 use crate::prefix_hash::PrefixHash;
 use crate::segments::Segments;
 use crate::shared::BlobBytes;
+use crate::shares::Shares;
 use crate::thread_end::ThreadEnd;
 use sha2::Digest;
 use std::alloc::{AllocError, Global};
@@ -212,6 +213,11 @@ impl Received {
         };
         parts.push(tail)?;
         Ok(BlobBytes::of_parts(parts))
+    }
+
+    /// Has shares of its parts kept, of those that stay as they are.
+    pub(crate) fn keep_in(&self, shares: &mut Shares) {
+        shares.add(self.segments.settled());
     }
 
     /// Lets the bytes go: what is left has their length and their hashes, which take in here what they lack. An `Err` gives

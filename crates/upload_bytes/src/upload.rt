@@ -9,6 +9,7 @@ use crate::front::Front;
 use crate::hashing::HashPlace;
 use crate::received::Received;
 use crate::shared::BlobBytes;
+use crate::shares::Shares;
 use crate::thread_end::ThreadEnd;
 use std::alloc::{AllocError, Global};
 use std::marker::Model;
@@ -142,10 +143,20 @@ impl Upload {
         self.let_go(place, alloc);
     }
 
-    /// Lets the bytes go, unless a thread is at work for them.
+    /// Has shares of its parts kept, if it has bytes.
+    pub fn keep_in(&self, shares: &mut Shares) {
+        match &self.content {
+            Content::Held(received) => received.keep_in(shares),
+            Content::Gone(_) => {}
+        }
+    }
+
+    /// Lets the bytes go at a place, unless a thread is at work for them.
     fn let_go<P: HashPlace>(&mut self, place: &P, alloc: Global)
         ensures { self.new ≡ self.old }
     {
+        let mut shares = Shares::none(alloc);
+        self.keep_in(&mut shares);
         let Content::Held(received) = &mut self.content else {
             return;
         };
@@ -154,6 +165,7 @@ impl Upload {
             Ok(digested) => Content::Gone(digested),
             Err(received) => Content::Held(received),
         };
+        place.let_go(shares);
     }
 
     /// The bytes with their hash by an algorithm (`Received::front`). None also says that they were let go. Nothing that

@@ -117,7 +117,8 @@ impl Service {
         self.step_at(&InPlace, ask, secret, now)
     }
 
-    /// As `step`, for a caller with threads. A close that isn't refused before waits for the thread that hashes for its
+    /// As `step`, for a caller with threads, in one of which many bytes go that nobody owns any more: those of a refused
+    /// body, of a blob whose place another one takes, and of idle uploads that leave. A close that isn't refused before waits for the thread that hashes for its
     /// session by the algorithm of its digest, and so does everybody else whom the caller serves. So the caller waits
     /// for it before, while others are served (`catch_up`).
     pub fn step_joining<R: Threads>(
@@ -132,7 +133,10 @@ impl Service {
     {
         let place = InThreads(rt);
         self.take_back(&place);
-        self.step_at(&place, ask, secret, now)
+        let shares = self.tables.keep_leaving(&ask, now);
+        let answer = self.step_at(&place, ask, secret, now);
+        place.let_go(shares);
+        answer
     }
 
     /// Serves one request as `step` does, and changes nothing: what would be a change is answered NoMemory. So is served
@@ -157,7 +161,10 @@ impl Service {
     {
         let place = InThreads(rt);
         self.take_back(&place);
-        self.step_shut(&place, ask, secret, now)
+        let shares = self.tables.keep_leaving(&ask, now);
+        let answer = self.step_shut(&place, ask, secret, now);
+        place.let_go(shares);
+        answer
     }
 
     /// Answers a chunk whose bytes were let go as they came: by the refusal that `step` would answer it by, or NoMemory if

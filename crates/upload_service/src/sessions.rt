@@ -12,7 +12,7 @@ use crate::limits::Limits;
 use std::alloc::{AllocError, Global};
 use std::collections::{BTreeMap, VecDeque};
 use std::marker::Model;
-use upload_bytes::{Body, Front, Grant, HashPlace, Received, ThreadEnd, Upload};
+use upload_bytes::{Body, Front, Grant, HashPlace, Received, Shares, ThreadEnd, Upload};
 use upload_names::{Algorithm, BlobDigest, RepoName, UploadRef};
 
 /// A session that was opened and not yet closed.
@@ -57,6 +57,9 @@ struct Started {
 
 /// How many idle sessions give way at once: each may have two threads that hash.
 const GIVE_WAY_AT_ONCE: usize = 8;
+
+/// Beside so many threads that hash, no further session gives way.
+const MOST_THREADS: usize = 64;
 
 /// The open sessions, seen as a map from their references.
 #[derive(Drop)]
@@ -128,6 +131,18 @@ impl Sessions {
             return false;
         }
         count_awake(&self.open, limits.max_idle, now) >= limits.max_open as usize
+    }
+
+    /// Has shares kept of what leaves if one more session is opened: of idle ones, if the table is full.
+    pub fn keep_leaving_in(&self, limits: Limits, now: u64, shares: &mut Shares) {
+        if self.open.len() < limits.max_open as usize {
+            return;
+        }
+        for entry in self.open.iter() {
+            if entry.1.is_idle(limits.max_idle, now) {
+                entry.1.received.keep_in(shares);
+            }
+        }
     }
 
     /// Adds a session. Where the table is full those that are idle as it is opened leave, once there is room.
@@ -262,6 +277,9 @@ impl Sessions {
         ensures { self.new ≡ self.old }
     {
         for _ in 0..GIVE_WAY_AT_ONCE {
+            if self.started.len() >= MOST_THREADS {
+                return;
+            }
             let Some(at) = self.idle_that_stays(max_idle, now) else {
                 return;
             };

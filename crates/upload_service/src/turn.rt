@@ -18,7 +18,7 @@ use crate::limits::Limits;
 use crate::sessions::{OpenSession, Sessions};
 use crate::stock::Stock;
 use std::alloc::{AllocError, Global};
-use upload_bytes::{Blob, Body, Grant, HashPlace, Several};
+use upload_bytes::{Blob, Body, Grant, HashPlace, Several, Shares};
 use upload_names::{BlobDigest, RepoName, UploadRef};
 
 /// All that a service keeps.
@@ -45,6 +45,27 @@ fn size_of_entry(name: &RepoName) -> u64 {
 }
 
 impl Tables {
+    /// Shares of the bytes that may go if a request is served: of its body, of a blob in whose place its own comes, and of
+    /// idle sessions. Small ones go where it is served.
+    pub fn keep_leaving(&self, ask: &Ask, now: u64) -> Shares {
+        let mut shares = Shares::none(self.alloc);
+        match ask {
+            Ask::Opening { .. } | Ask::Mount { .. } => {
+                self.sessions.keep_leaving_in(self.limits, now, &mut shares);
+            }
+            Ask::Chunk { body, .. } => body.keep_in(&mut shares),
+            Ask::Single { digest, body, .. } | Ask::Close { digest, body, .. } => {
+                body.keep_in(&mut shares);
+                let stored = digest.as_ref().and_then(|digest| self.stock.get(digest));
+                if let Some(blob) = stored {
+                    blob.keep_in(&mut shares);
+                }
+            }
+            Ask::Base | Ask::Has { .. } | Ask::Status { .. } | Ask::Refused(_) => {}
+        }
+        shares
+    }
+
     /// The session of a reference, if it is open under this name and isn't idle.
     fn find_awake(&self, name: &RepoName, at: &UploadRef, now: u64) -> Option<&OpenSession>
         ensures found { IfSome result (λ session. awake (state_of self.now) now at.now
