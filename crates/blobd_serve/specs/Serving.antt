@@ -12,6 +12,10 @@ use Rattle.upload_intake.specs.Pools.ServedPool.{Given, Left, IsServedPool, IsSe
 use Rattle.upload_intake.specs.Pools.KeptPool.{IsKeptPool}
 use Rattle.upload_intake.specs.Transcripts.{TellsAll}
 use Rattle.upload_intake.specs.Pools.Working.{Lending, Means, Lent, Talk}
+use Rattle.upload_intake.specs.Seats.{SeatState, Hears}
+use Rattle.upload_wire.specs.Conversation.{ConnectionState, IsConversation, Moves}
+use Rattle.upload_wire.specs.declared.connection.ConnEnd.{ConnEnd}
+use Rattle.http_wire.specs.States.{TranscriptState}
 use Rattle.blobd_shared.specs.Connections.{ConnEvent, transcript_of}
 use Rattle.blobd_shared.specs.Connections.ConnEvent.{made, given_back}
 use Rattle.blobd_shared.specs.Status.{line}
@@ -32,6 +36,29 @@ module _ {L : Lending} {S G O : Type 0} (m : Means L S G O) (max_body : ℕ) whe
     pub counted : so_many (length talks)
     pub told : AllByRecursion (TellsAll m max_body) talks
     pub history : new ≡ old ++ flat_map events_of talks
+
+-- how a seat moves, with any secret
+abbrev pub HeardSteps : Moves SeatState
+HeardSteps old ask answer new = (secret : List ℕ) × Hears old ask secret answer new
+
+-- A connection that was served: from when nothing had been read or written over it until all this was, it had a
+-- conversation over a seat, each of whose answers is what the seat heard.
+pub record IsServed (given : TranscriptState) (taken : List ℕ) : Type 0 where
+  pub max_body : ℕ
+  pub old : ConnectionState SeatState
+  pub new : ConnectionState SeatState
+  pub end : ConnEnd
+  pub unread : old.source.given ≡ []
+  pub unwritten : old.sink.taken ≡ []
+  pub read : transcript_of new.source ≡ given
+  pub written : new.sink.taken ≡ taken
+  pub conversation : IsConversation HeardSteps max_body old new end
+
+-- each connection of these doors that was served may come back
+abbrev pub ServedComeBack : {L In Out : Type 0} → (In → TranscriptState) → (Out → List ℕ) → (L → In × Out → Type 0)
+    → Type 0
+ServedComeBack {L} {In} {Out} given taken may_come_back = (door : L) (source : In) (sink : Out)
+    → IsServed (given source) (taken sink) → may_come_back door (source, sink)
 
 -- The workers of a pool that began with this service served so many connections each, each over a door of its own. The
 -- doors' histories went from these to those.

@@ -9,6 +9,7 @@ use crate::steps::{Step, step_behind};
 use blobd_shared::Counted;
 use std::alloc::{AllocError, Global};
 use std::io::{Eprint, ErrorKind};
+use std::marker::Model;
 use std::rt::Clock;
 use std::sync::Wait;
 use std::time::Duration;
@@ -39,13 +40,16 @@ pub(crate) type Reader<'a, L, R> = Counted<Half<'a, <L as Accepts>::In, R>>;
 /// What replies are written to.
 pub(crate) type Writer<'a, L, R> = Counted<Half<'a, <L as Accepts>::Out, R>>;
 
-/// The connections of one worker: the next ones that come to it, up to a count.
+/// The connections of one worker: the next ones that come to it, up to a count. Contracts see where they come from, and how
+/// many are left.
 #[derive(Drop)]
-pub(crate) struct Accepted<'a, L, R> {
+pub(crate) struct Accepted<'a, L: Accepts, R> {
     rt: &'a R,
     alloc: Global,
     /// Where they come from.
     door: L,
+    /// Whether a connection is served now.
+    is_lent: bool,
     /// How many more it takes.
     left: u64,
     demand: Demand,
@@ -54,6 +58,17 @@ pub(crate) struct Accepted<'a, L, R> {
     lines: Option<LogLines>,
     /// Whether it was said that a connection can't be taken now.
     is_told: bool,
+}
+
+impl<'a, L: Accepts, R> Model for Accepted<'a, L, R> {
+    ghost use Rattle.std.specs.Prelude.{◌≡◌, false};
+    ghost use Rattle.blobd_serve.specs.Doors.{AcceptedState};
+
+    ghost Value = { AcceptedState L };
+
+    ghost view = { λ a. record { door = a.door; left = a.left } };
+
+    ghost invariant = { λ a. a.is_lent ≡ false → L.is_free a.door };
 }
 
 /// What is done behind an accept that failed so.
@@ -70,13 +85,14 @@ impl<'a, L: Accepts + Drop, R: Clock + Eprint + Wait> Accepted<'a, L, R> {
         terms: Terms,
         lines: Option<LogLines>,
     ) -> Result<Accepted<'a, L, R>, AllocError>
-        ensures { IfOk result (λ conns. (conns.left ≡ terms.count)
-            × (conns.demand ≡ terms.demand) × (conns.door ≡ door)) }
+        requires { L.is_free door }
+        ensures { IfOk result (λ conns. (conns.left ≡ terms.count) × (conns.door ≡ door)) }
     {
         Ok(Accepted {
             rt,
             alloc,
             door,
+            is_lent: false,
             left: terms.count,
             demand: terms.demand,
             turn: Turn::new(alloc)?,
@@ -131,6 +147,7 @@ impl<'a, L: Accepts + Drop, R: Clock + Eprint + Wait> Accepted<'a, L, R> {
 
     /// The two ends of the next connection, however long that takes. An error says that none can come.
     fn next_ends(&mut self) -> io::Result<(L::In, L::Out)>
+        requires { L.is_free self.old.door }
         ensures new { IfOk result (λ ends. (L.In.given ends.0
             ≡ record { bytes = []; ended = false }) × (L.Out.taken ends.1 ≡ [])) }
         ensures told { IfOk result (λ ends.
@@ -140,7 +157,10 @@ impl<'a, L: Accepts + Drop, R: Clock + Eprint + Wait> Accepted<'a, L, R> {
     {
         for _ in 0..u64::MAX {
             let error = match self.door.accept() {
-                Ok(ends) => return Ok(ends),
+                Ok(ends) => {
+                    self.is_lent = true;
+                    return Ok(ends);
+                }
                 Err(error) => error,
             };
             match step_after(&error) {
@@ -152,7 +172,7 @@ impl<'a, L: Accepts + Drop, R: Clock + Eprint + Wait> Accepted<'a, L, R> {
         Err(io::Error::from(ErrorKind::TimedOut))
     }
 
-    /// The halves of the next connection.
+    /// The halves of the next connection. An error also says that the one before wasn't given back.
     fn accept(&mut self) -> io::Result<(Reader<'a, L, R>, Writer<'a, L, R>)>
         ensures new { IfOk result (λ halves. (L.In.given halves.0.end.stream
             ≡ record { bytes = []; ended = false }) × (L.Out.taken halves.1.end.stream ≡ [])) }
@@ -161,6 +181,9 @@ impl<'a, L: Accepts + Drop, R: Clock + Eprint + Wait> Accepted<'a, L, R> {
         ensures none { OnErr result (L.history self.new.door ≡ L.history self.old.door) }
         ensures same { self.new.left ≡ self.old.left }
     {
+        if self.is_lent {
+            return Err(io::Error::from(ErrorKind::ResourceBusy));
+        }
         // Behind the accept nothing fails: no connection that came is dropped.
         let (read, write) = (self.turn.share()?, self.turn.share()?);
         let (source, sink) = self.next_ends()?;
@@ -197,8 +220,12 @@ where
         × (L.history new.door ≡ L.history old.door
         ++ given_back (L.In.given halves.0.end.stream) (L.Out.taken halves.1.end.stream) ∷ []) };
 
+    // It was served, as whoever lent the door has it.
+    ghost may_come_back = { λ conns halves.
+        L.may_come_back conns.door (halves.0.end.stream, halves.1.end.stream) };
+
     /// Waits for the next connection. None if as many as were asked for are served, if the server has ended, or if one
-    /// couldn't be taken, which is told on standard error.
+    /// couldn't be taken, which is told on standard error: also if the one before wasn't given back.
     fn next_conn(&mut self) -> Option<(Reader<'a, L, R>, Writer<'a, L, R>)> {
         let left = self.left.checked_sub(1)?;
         let accepted = self.accept();
@@ -217,5 +244,6 @@ where
         let source = source.into_end().into_stream();
         let sink = sink.into_end().into_stream();
         self.door.take_back(source, sink);
+        self.is_lent = false;
     }
 }

@@ -18,7 +18,9 @@ pub trait Timed {
     fn has_ended(&self) -> bool;
 }
 
-/// The connections of one worker, one after the other. A worker has no other way to get one, and gives each back.
+/// The connections of one worker, one after the other. A worker has no other way to get one, and gives each back before it
+/// gets the next. So that this binds a server that never returns too, each call asks for it: what has to be known before it
+/// is known to whoever was lent these (`serve_over`), and nobody else can know it of any of them.
 pub trait Accepts {
     ghost use Rattle.std.specs.Prelude.{List};
     ghost use Rattle.blobd_shared.specs.Connections.{ConnEvent};
@@ -32,19 +34,29 @@ pub trait Accepts {
     // and written over it.
     ghost history: { Self → List ConnEvent };
 
+    // A connection may be asked for: each one before was given back.
+    ghost is_free: { Self → Type 0 } = { λ _. Unit {0} };
+
+    // What has to be known of a connection that is given back, of the state before and of both ends.
+    ghost may_come_back: { Self → Self.In × Self.Out → Type 0 } = { λ _ _. Unit {0} };
+
     /// The next connection, over which nothing was read or written. It is waited for. An error is the system's, or out
     /// of memory.
     fn accept(&mut self) -> io::Result<(Self::In, Self::Out)>
+        requires { is_free self.old }
         ensures new { IfOk result (λ ends. (Self.In.given ends.0
             ≡ record { bytes = []; ended = false }) × (Self.Out.taken ends.1 ≡ [])) }
         ensures told { IfOk result (λ ends. history self.new ≡ history self.old ++ made ∷ []) }
-        ensures none { OnErr result (history self.new ≡ history self.old) };
+        ensures none { OnErr result (history self.new ≡ history self.old) }
+        ensures free { OnErr result (is_free self.new) };
 
     /// Whether the server has ended, so that no connection comes any more.
     fn has_ended(&self) -> bool;
 
     /// Takes a connection back that was served: both ends are as its conversation left them.
     fn take_back(&mut self, source: Self::In, sink: Self::Out)
-        ensures { history self.new ≡ history self.old
-            ++ given_back (Self.In.given source) (Self.Out.taken sink) ∷ [] };
+        requires { may_come_back self.old (source, sink) }
+        ensures told { history self.new ≡ history self.old
+            ++ given_back (Self.In.given source) (Self.Out.taken sink) ∷ [] }
+        ensures free { is_free self.new };
 }

@@ -4,7 +4,7 @@
 ghost use Rattle.std.specs.Prelude.{◌≡◌, ◌<◌, ◌≤◌, [], All, IfOk, false, vec_len};
 ghost use Rattle.upload_intake.specs.Pools.Working.{lending, means};
 ghost use Rattle.upload_intake.specs.Safety.{Leads};
-ghost use Rattle.blobd_serve.specs.Serving.{ServesAnew, ServesOn};
+ghost use Rattle.blobd_serve.specs.Serving.{IsServed, ServesAnew, ServesOn};
 
 use crate::accept::{Accepted, Reader, Terms, Writer};
 use crate::accepts::{Accepts, Timed};
@@ -164,6 +164,9 @@ impl<'a, R: Wait + Sync> Accepts for Door<'a, R> {
     type Out = Socket;
 
     ghost history = { λ d. d.history };
+
+    // It was served.
+    ghost may_come_back = { λ _ ends. IsServed ends.0.moved ends.1.moved.bytes };
 
     fn accept(&mut self) -> io::Result<(Socket, Socket)> {
         let (read, write) = (self.ended.share()?, self.ended.share()?);

@@ -156,6 +156,7 @@ fn make_worker<'a, L, R>(
 where
     L: Accepts + Drop,
     R: AllocGlobal + Clock + RandomSource + Eprint + Wait,
+    requires { L.is_free door }
     ensures { IfOk result (λ worker. (worker.conns.door ≡ door)
         × (worker.conns.left ≡ terms.count)) }
 {
@@ -183,6 +184,7 @@ fn make_workers<'a, L, R>(
 where
     L: Accepts + Drop,
     R: AllocGlobal + Clock + RandomSource + Eprint + Wait,
+    requires { All L.is_free doors.items }
     ensures doors { IfOk result (λ workers. doors_of workers.items ≡ doors.items) }
     ensures left { IfOk result (λ workers. All (λ left. left ≡ terms.count)
         (lefts_of workers.items)) }
@@ -228,7 +230,7 @@ pub(crate) fn took_all(ends: &Vec<WorkerEnd>, count: u64) -> bool
 
 /// A server that is ready: its address was told.
 #[derive(Drop)]
-pub(crate) struct Ready<'a, L, R> {
+pub(crate) struct Ready<'a, L: Accepts, R> {
     /// A worker over each door, in their order.
     pub(crate) workers: Vec<DoorWorker<'a, L, R>>,
     /// Room for the doors, once the workers have ended.
@@ -244,7 +246,8 @@ where
 {
     /// A worker over each of these doors, and the log if the terms want one. Nothing is printed.
     fn make(rt: &'a R, doors: Vec<L>, terms: Terms) -> Result<Ready<'a, L, R>, Lack>
-        requires { 0 < vec_len doors }
+        requires some { 0 < vec_len doors }
+        requires free { All L.is_free doors.items }
         ensures some { IfOk result (λ ready. 0 < vec_len ready.workers) }
         ensures doors { IfOk result (λ ready. doors_of ready.workers.items ≡ doors.items) }
         ensures left { IfOk result (λ ready. All (λ left. left ≡ terms.count)
@@ -266,7 +269,8 @@ where
         terms: Terms,
         out: &mut W,
     ) -> Result<Ready<'a, L, R>, u8>
-        requires { 0 < vec_len doors }
+        requires some { 0 < vec_len doors }
+        requires free { All L.is_free doors.items }
         ensures some { IfOk result (λ ready. 0 < vec_len ready.workers) }
         ensures doors { IfOk result (λ ready. doors_of ready.workers.items ≡ doors.items) }
         ensures left { IfOk result (λ ready. All (λ left. left ≡ terms.count)

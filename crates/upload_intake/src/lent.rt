@@ -23,6 +23,10 @@ pub trait Conns {
     // Holds of the state before, the connection that is given back, and the state after.
     ghost takes_back: { Self → Self.In × Self.Out → Self → Type 0 };
 
+    // What has to be known of a connection that is given back, of the state before and of both ends: a server that
+    // never returns has to know it each time.
+    ghost may_come_back: { Self → Self.In × Self.Out → Type 0 } = { λ _ _. Unit {0} };
+
     /// The next connection, or None if no more come.
     fn next_conn(&mut self) -> Option<(Self::In, Self::Out)>
         ensures { gives self.old result self.new };
@@ -30,6 +34,7 @@ pub trait Conns {
     /// Takes a connection back that was served, before the next one is asked for: both ends are as its conversation
     /// left them.
     fn take_back(&mut self, source: Self::In, sink: Self::Out)
+        requires { may_come_back self.old (source, sink) }
         ensures { takes_back self.old (source, sink) self.new };
 }
 

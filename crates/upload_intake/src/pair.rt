@@ -1,7 +1,7 @@
 //! Two workers.
 ghost use Rattle.std.specs.Prelude.{◌≡◌, [], ◌∷◌, IfOk};
 ghost use Rattle.upload_service.specs.Machine.{IsLawful};
-ghost use Rattle.upload_intake.specs.Pools.Working.{lending, means};
+ghost use Rattle.upload_intake.specs.Pools.Working.{ServedComeBack, lending, means};
 ghost use Rattle.upload_intake.specs.Pools.ServedPool.{IsServedPool};
 
 use crate::lent::{Conns, Gate, Moments, Secrets};
@@ -57,6 +57,9 @@ where
     S: Secrets + Send + Drop,
     G: Gate + Send + Drop,
     O: Observer + Send + Drop,
+    requires license { ServedComeBack
+        (means (lending C.gives C.takes_back C.In.state C.Out.state) S.draws G.watches O.told)
+        C.may_come_back }
     ensures served { IfOk result (λ pair. IsServedPool
         (means (lending C.gives C.takes_back C.In.state C.Out.state) S.draws G.watches O.told)
         M.tells

@@ -4,11 +4,11 @@ ghost use Rattle.std.specs.Thread.{IsSend, IsSync};
 ghost use Rattle.upload_service.specs.Machine.{IsLawful, AreLawful};
 ghost use Rattle.upload_intake.specs.Seats.{IsFresh};
 ghost use Rattle.upload_intake.specs.Pools.Served.{AreOfOneCall};
-ghost use Rattle.upload_intake.specs.Pools.Working.{lending, means};
+ghost use Rattle.upload_intake.specs.Pools.Working.{ServedComeBack, lending, means};
 ghost use Rattle.upload_intake.specs.Pools.KeptPool.{IsKeptPool};
 ghost use Rattle.upload_intake.specs.Safety.{Leads, LeadsTo, now_of};
 ghost use Rattle.upload_intake.specs.declared.pool.KeptFault.TheVariants as kept_faults;
-ghost use Rattle.upload_intake.specs.Pools.Stations.{seats_of, workers_of, limits_of, promised, EachWorks};
+ghost use Rattle.upload_intake.specs.Pools.Stations.{seats_of, workers_of, limits_of, promised, EachWorks, Works};
 
 use crate::keeper::Keeper;
 use crate::keeping::Keeping;
@@ -285,6 +285,9 @@ where
     requires leads { Leads (K.start kept.keeping) (K.kept kept.keeping) kept.since kept.service }
     requires waiting { K.waiting kept.keeping ≡ [] }
     requires begun { kept.since ≤ K.last kept.keeping }
+    requires license { ServedComeBack
+        (means (lending C.gives C.takes_back C.In.state C.Out.state) S.draws G.watches O.told)
+        C.may_come_back }
     ensures served { IfOk result (λ r. IsKeptPool
         (means (lending C.gives C.takes_back C.In.state C.Out.state) S.draws G.watches O.told)
         M.tells kept.since
@@ -318,6 +321,9 @@ where
             requires leads { LeadsTo (K.start keeping) (K.kept keeping) keeper }
             requires waiting { K.waiting keeping ≡ [] }
             requires begun { now_of keeper ≤ K.last keeping }
+            requires license { ServedComeBack
+                (means (lending C.gives C.takes_back C.In.state C.Out.state) S.draws
+                G.watches O.told) C.may_come_back }
             requires cross { IsSend C.row × IsSend S.row × IsSend G.row × IsSend O.row
                 × IsSend C.In.row × IsSend C.Out.row × IsSync R.row }
             ensures served { IfOk result (λ r. IsKeptPool
@@ -348,7 +354,14 @@ where
                     station: Snapshot::of(&station),
                 };
                 let stack = Stack::new().stack_size(STACK);
-                let run = move || serve_station(rt, station);
+                let run = move || -> Leaving<C, S, G, O>
+                    requires license { ServedComeBack
+                        (means (lending C.gives C.takes_back C.In.state C.Out.state) S.draws
+                        G.watches O.told) C.may_come_back }
+                    ensures { Works
+                        (means (lending C.gives C.takes_back C.In.state C.Out.state) S.draws
+                        G.watches O.told) station result }
+                { serve_station(rt, station) };
                 let Ok(worker) = stack.spawn_scoped_with(scope, work, run) else {
                     drop(keeper);
                     drop(join_all(rt, started, room));

@@ -3,7 +3,7 @@ ghost use Rattle.std.specs.Prelude.{◌≡◌, ◌<◌, [], IfOk, vec_len};
 ghost use Rattle.upload_service.specs.Machine.{IsLawful};
 ghost use Rattle.upload_intake.specs.Safety.{Leads, Follows};
 ghost use Rattle.upload_intake.specs.Pools.ServedPool.{IsServedPool};
-ghost use Rattle.upload_intake.specs.Pools.Working.{lending, means};
+ghost use Rattle.upload_intake.specs.Pools.Working.{ServedComeBack, lending, means};
 
 use crate::keeper::{Keeper, Served};
 use crate::keeping::{Keeping, NotKept};
@@ -185,7 +185,10 @@ where
     S: Secrets + Send + Drop,
     G: Gate + Send + Drop,
     O: Observer + Send + Drop,
-    requires { 0 < vec_len workers }
+    requires workers { 0 < vec_len workers }
+    requires license { ServedComeBack
+        (means (lending C.gives C.takes_back C.In.state C.Out.state) S.draws G.watches O.told)
+        C.may_come_back }
     ensures served { IfOk result (λ pool. IsServedPool
         (means (lending C.gives C.takes_back C.In.state C.Out.state) S.draws G.watches O.told)
         M.tells

@@ -3,7 +3,7 @@ ghost use Rattle.std.specs.Prelude.{◌≡◌, ◌+◌, min, if◌then◌else◌
 ghost use Rattle.upload_intake.specs.Seats.{IsSameSeat};
 ghost use Rattle.upload_intake.specs.Pools.Settled.{count_limit};
 ghost use Rattle.upload_intake.specs.Pools.Stations.{Works};
-ghost use Rattle.upload_intake.specs.Pools.Working.{IsWorked, is_clean, is_gone, lending, means};
+ghost use Rattle.upload_intake.specs.Pools.Working.{IsWorked, ServedComeBack, is_clean, is_gone, lending, means};
 
 use crate::desk::{GatedDesk, SeatDesk};
 use crate::lent::{Conns, Gate, Secrets};
@@ -108,6 +108,9 @@ where
     S: Secrets + Drop,
     G: Gate + Drop,
     O: Observer + Drop,
+    requires license { ServedComeBack
+        (means (lending C.gives C.takes_back C.In.state C.Out.state) S.draws G.watches O.told)
+        C.may_come_back }
     ensures seat { IsSameSeat seat result.seat }
     ensures worked { IsWorked
         (means (lending C.gives C.takes_back C.In.state C.Out.state) S.draws G.watches O.told)
@@ -163,6 +166,9 @@ where
     S: Secrets + Drop,
     G: Gate + Drop,
     O: Observer + Drop,
+    requires license { ServedComeBack
+        (means (lending C.gives C.takes_back C.In.state C.Out.state) S.draws G.watches O.told)
+        C.may_come_back }
     ensures { Works
         (means (lending C.gives C.takes_back C.In.state C.Out.state) S.draws G.watches O.told)
         station result }

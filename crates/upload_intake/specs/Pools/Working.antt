@@ -156,3 +156,9 @@ module _ {L : Lending} {S G O : Type 0} (m : Means L S G O) (max_body : ℕ) whe
     pub heard : Hears m.told lent.observer events back.observer
     pub counted : end.conns ≡ min (length talks) count_limit
     pub clean_ones : end.clean ≡ min (count_clean talks) count_limit
+
+-- Each connection that was served may come back: what was read and written over it, from how it was given, is a
+-- conversation over some seat.
+abbrev pub ServedComeBack : {L : Lending} {S G O : Type 0} → Means L S G O → (L.Conns → L.In × L.Out → Type 0) → Type 0
+ServedComeBack {L} m may_come_back = (max_body : ℕ) (before given : L.Conns) (t : Talk m max_body)
+    → L.gives before (Some (t.reader, t.writer)) given → may_come_back given (t.reader_left, t.writer_left)

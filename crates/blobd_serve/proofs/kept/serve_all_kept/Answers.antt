@@ -1,5 +1,6 @@
 use Rattle.std.proofs.Common.{ap, refl}
 use Rattle.blobd_serve.proofs.Histories.{at_most, exactly}
+use Rattle.blobd_serve.proofs.Served.{is_served}
 use Rattle.blobd_serve.proofs.kept.serve_all_kept.Goals as goal
 
 pub returns-clause-served : goal.returns-clause-served
@@ -37,3 +38,9 @@ returns-clause-took g c = λ took. record {
         back = λ old new r w back. back.1;
       }) c.args.count c.requires.left _ c.take_doors.ensures (c.took_all-took.ensures took);
 }
+
+-- what a worker served may come back to its door
+pub serve_kept-requires-clause-license : goal.serve_kept-requires-clause-license
+serve_kept-requires-clause-license g c κs within = λ max_body before given t gave.
+    c.requires.license given.door t.reader_left.end.stream t.writer_left.end.stream
+    (is_served _ max_body t (ap (λ t. t.bytes) gave.1) gave.2)

@@ -1,5 +1,6 @@
 use Rattle.std.proofs.Common.{ap}
 use Rattle.blobd_serve.proofs.Histories.{at_most, exactly}
+use Rattle.blobd_serve.proofs.Served.{is_served}
 use Rattle.blobd_serve.proofs.serve.serve_all.Goals as goal
 
 pub returns-clause-served : goal.returns-clause-served
@@ -39,3 +40,9 @@ returns-clause-took g c = λ took. record {
         back = λ old new r w back. back.1;
       }) c.args.terms.count c.requires.left _ c.take_doors.ensures (c.took_all-took.ensures took);
 }
+
+-- what a worker served may come back to its door
+pub serve_workers-requires-clause-license : goal.serve_workers-requires-clause-license
+serve_workers-requires-clause-license g c κs within = λ max_body before given t gave.
+    c.requires.license given.door t.reader_left.end.stream t.writer_left.end.stream
+    (is_served _ max_body t (ap (λ t. t.bytes) gave.1) gave.2)

@@ -63,6 +63,20 @@ loop-preserved g c =
       limit = c.serve-ended.ensures.limit ∙ c.loop.invariant.limit;
     }
 
+-- the connection was served, so it may come back
+pub take_back-requires : goal.take_back-requires
+take_back-requires g c =
+    let m =
+    means (lending g.C.Conns.gives g.C.Conns.takes_back g.C.In.ByteSource.state g.C.Out.ByteSink.state)
+    g.S.Secrets.draws g.G.Gate.watches
+    g.O.Observer.told in
+    let limit = c.loop.server.max_body in
+    c.requires.license limit c.loop.conns c.next_conn.new.self
+    (talk_of m limit c.in-Some-next_conn.source c.serve-ended.new.reader c.in-Some-next_conn.sink
+    c.serve-ended.new.writer c.loop.desk c.serve-ended.new.desk c.loop.observer c.serve-ended.new.observer
+    c.serve-ended.result c.serve-ended.ensures.told)
+    c.in-Some-next_conn.ensures
+
 pub returns-clause-seat : goal.returns-clause-seat
 returns-clause-seat g c =
     let at_the_end : IsSameSeat c.args.seat (seat_of c.match-next.desk.desk) = elim c.match-next.branch [

@@ -6,4 +6,5 @@ abbrev pub invariant-loop : goal.invariant-loop
 invariant-loop g l = record {
   history : g.L.Accepts.history l.self.door ≡ g.L.Accepts.history l.initial.self.door;
   left : l.self.left ≡ l.initial.self.left;
+  free : g.L.Accepts.is_free l.self.door;
 }

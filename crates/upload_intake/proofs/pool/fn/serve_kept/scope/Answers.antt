@@ -15,13 +15,16 @@ use Rattle.upload_intake.proofs.pool.fn.serve_kept.scope.Goals as goal
 pub spawn_scoped_with-requires-clause-runs : goal.spawn_scoped_with-requires-clause-runs
 spawn_scoped_with-requires-clause-runs g c κs within =
     let s = c.requires.cross in (
-      search (sendable, s) depth 20,
-      search (sendable, s) depth 20,
-      search (sendable, s) depth 20,
-      search (sendable, s) depth 20,
-      search (sendable, s) depth 20,
-      search (sendable, s) depth 20,
-      search (sendable, s) depth 20,
+      c.requires.license,
+      (
+        search (sendable, s) depth 20,
+        search (sendable, s) depth 20,
+        search (sendable, s) depth 20,
+        search (sendable, s) depth 20,
+        search (sendable, s) depth 20,
+        search (sendable, s) depth 20,
+        search (sendable, s) depth 20,
+      ),
     )
 
 pub spawn_scoped_with-requires-send-F : goal.spawn_scoped_with-requires-send-F
