@@ -220,9 +220,9 @@ impl Received {
         shares.add(self.segments.settled());
     }
 
-    /// Lets the bytes go: what is left has their length and their hashes, which take in here what they lack. An `Err` gives
-    /// the bytes back: a thread is at work for one of the hashes.
-    pub fn let_go<P: HashPlace>(self, place: &P) -> Result<Digested, Received>
+    /// Lets the bytes go at a place: what is left has their length and their hashes, which take in here what they lack. An
+    /// `Err` gives the bytes back: a thread is at work for one of the hashes.
+    pub fn let_go<P: HashPlace>(self, place: &P, alloc: Global) -> Result<Digested, Received>
         ensures ok { IfOk result (λ left. left ≡ self) }
         ensures err { IfErr result (λ back. back ≡ self) }
     {
@@ -234,7 +234,12 @@ impl Received {
         }
         let sha256 = received.hash(place, Algorithm::Sha256);
         let sha512 = received.hash(place, Algorithm::Sha512);
-        Ok(Digested::of(&received, sha256, sha512))
+        let digested = Digested::of(&received, sha256, sha512);
+        let mut shares = Shares::none(alloc);
+        received.keep_in(&mut shares);
+        drop(received);
+        place.let_go(shares);
+        Ok(digested)
     }
 
     /// A hash by an algorithm that holds all the bytes. Nothing that is seen changes.

@@ -41,7 +41,10 @@ impl Shares {
             if part.has_one_owner() {
                 size = size.saturating_add(part.as_slice().len() as u64);
             }
+            if size >= WORTH_LETTING_GO {
+                return true;
+            }
         }
-        size >= WORTH_LETTING_GO
+        false
     }
 }

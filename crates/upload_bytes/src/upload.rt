@@ -155,17 +155,14 @@ impl Upload {
     fn let_go<P: HashPlace>(&mut self, place: &P, alloc: Global)
         ensures { self.new ≡ self.old }
     {
-        let mut shares = Shares::none(alloc);
-        self.keep_in(&mut shares);
         let Content::Held(received) = &mut self.content else {
             return;
         };
         let received = mem::replace(received, Received::new(alloc));
-        self.content = match received.let_go(place) {
+        self.content = match received.let_go(place, alloc) {
             Ok(digested) => Content::Gone(digested),
             Err(received) => Content::Held(received),
         };
-        place.let_go(shares);
     }
 
     /// The bytes with their hash by an algorithm (`Received::front`). None also says that they were let go. Nothing that

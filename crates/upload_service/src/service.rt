@@ -118,9 +118,9 @@ impl Service {
     }
 
     /// As `step`, for a caller with threads, in one of which many bytes go that nobody owns any more: those of a refused
-    /// body, of a blob whose place another one takes, and of idle uploads that leave. A close that isn't refused before waits for the thread that hashes for its
-    /// session by the algorithm of its digest, and so does everybody else whom the caller serves. So the caller waits
-    /// for it before, while others are served (`catch_up`).
+    /// body, of a blob whose place another one takes, and of idle uploads that leave. A close that isn't refused before
+    /// waits for the thread that hashes for its session by the algorithm of its digest, and so does everybody else whom
+    /// the caller serves. So the caller waits for it before, while others are served (`catch_up`).
     pub fn step_joining<R: Threads>(
         &mut self,
         rt: &R,
@@ -161,7 +161,7 @@ impl Service {
     {
         let place = InThreads(rt);
         self.take_back(&place);
-        let shares = self.tables.keep_leaving(&ask, now);
+        let shares = self.tables.keep_body(&ask);
         let answer = self.step_shut(&place, ask, secret, now);
         place.let_go(shares);
         answer

@@ -55,10 +55,10 @@ struct Started {
     end: ThreadEnd,
 }
 
-/// How many idle sessions give way at once: each may have two threads that hash.
+/// How many idle sessions give way at once.
 const GIVE_WAY_AT_ONCE: usize = 8;
 
-/// Beside so many threads that hash, no further session gives way.
+/// How many threads hash at most for sessions that give way: each may have two.
 const MOST_THREADS: usize = 64;
 
 /// The open sessions, seen as a map from their references.
@@ -133,9 +133,9 @@ impl Sessions {
         count_awake(&self.open, limits.max_idle, now) >= limits.max_open as usize
     }
 
-    /// Has shares kept of what leaves if one more session is opened: of idle ones, if the table is full.
+    /// Has shares kept of what leaves if one more session is opened: of idle ones, if the table is full with them alone.
     pub fn keep_leaving_in(&self, limits: Limits, now: u64, shares: &mut Shares) {
-        if self.open.len() < limits.max_open as usize {
+        if self.open.len() < limits.max_open as usize || self.is_full(limits, now) {
             return;
         }
         for entry in self.open.iter() {
@@ -276,10 +276,13 @@ impl Sessions {
     pub fn give_way<P: HashPlace>(&mut self, place: &P, alloc: Global, max_idle: u64, now: u64)
         ensures { self.new ≡ self.old }
     {
-        for _ in 0..GIVE_WAY_AT_ONCE {
-            if self.started.len() >= MOST_THREADS {
-                return;
-            }
+        let threads = self
+            .started
+            .iter()
+            .filter(|started| self.gives_way(&started.at))
+            .count();
+        let most = MOST_THREADS.saturating_sub(threads) / 2;
+        for _ in 0..most.min(GIVE_WAY_AT_ONCE) {
             let Some(at) = self.idle_that_stays(max_idle, now) else {
                 return;
             };
@@ -288,6 +291,13 @@ impl Sessions {
             let _ = self.catch_up(place, alloc, &at, Algorithm::Sha256);
             let _ = self.catch_up(place, alloc, &at, Algorithm::Sha512);
         }
+    }
+
+    /// Whether a session is open whose bytes are to go.
+    fn gives_way(&self, at: &UploadRef) -> bool {
+        self.open
+            .get(at)
+            .is_some_and(|session| !session.received.stays())
     }
 
     /// An idle session whose bytes aren't to go yet.

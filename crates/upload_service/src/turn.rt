@@ -45,25 +45,56 @@ fn size_of_entry(name: &RepoName) -> u64 {
 }
 
 impl Tables {
-    /// Shares of the bytes that may go if a request is served: of its body, of a blob in whose place its own comes, and of
-    /// idle sessions. Small ones go where it is served.
-    pub fn keep_leaving(&self, ask: &Ask, now: u64) -> Shares {
+    /// Shares of the bytes that may go if a request is served and changes nothing: of its body.
+    pub fn keep_body(&self, ask: &Ask) -> Shares {
         let mut shares = Shares::none(self.alloc);
-        match ask {
-            Ask::Opening { .. } | Ask::Mount { .. } => {
-                self.sessions.keep_leaving_in(self.limits, now, &mut shares);
-            }
-            Ask::Chunk { body, .. } => body.keep_in(&mut shares),
-            Ask::Single { digest, body, .. } | Ask::Close { digest, body, .. } => {
-                body.keep_in(&mut shares);
-                let stored = digest.as_ref().and_then(|digest| self.stock.get(digest));
-                if let Some(blob) = stored {
-                    blob.keep_in(&mut shares);
-                }
-            }
-            Ask::Base | Ask::Has { .. } | Ask::Status { .. } | Ask::Refused(_) => {}
+        if let Ask::Single { body, .. } | Ask::Chunk { body, .. } | Ask::Close { body, .. } = ask {
+            body.keep_in(&mut shares);
         }
         shares
+    }
+
+    /// Shares of the bytes that may go if a request is served: of its body, of the blob whose place its own takes, and of
+    /// idle sessions. Small ones go where it is served.
+    pub fn keep_leaving(&self, ask: &Ask, now: u64) -> Shares {
+        let mut shares = self.keep_body(ask);
+        match ask {
+            Ask::Opening { .. } => self.sessions.keep_leaving_in(self.limits, now, &mut shares),
+            Ask::Mount { digest, source, .. } if !self.stock.contains(source, digest) => {
+                self.sessions.keep_leaving_in(self.limits, now, &mut shares);
+            }
+            Ask::Single {
+                digest: Some(digest),
+                body,
+                ..
+            } => {
+                self.keep_replaced_in(digest, body.len() as u64, &mut shares);
+            }
+            Ask::Close {
+                at,
+                digest: Some(digest),
+                body,
+                ..
+            } => {
+                let before = self
+                    .sessions
+                    .find(at)
+                    .map_or(0, |session| session.received.len());
+                let size = before.saturating_add(body.len() as u64);
+                self.keep_replaced_in(digest, size, &mut shares);
+            }
+            _ => {}
+        }
+        shares
+    }
+
+    /// Has shares kept of the stored blob of a digest if a blob of this size may take its place: only one of its own does.
+    fn keep_replaced_in(&self, digest: &BlobDigest, size: u64, shares: &mut Shares) {
+        if let Some(blob) = self.stock.get(digest) {
+            if blob.len() == size {
+                blob.keep_in(shares);
+            }
+        }
     }
 
     /// The session of a reference, if it is open under this name and isn't idle.
