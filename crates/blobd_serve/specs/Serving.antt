@@ -42,7 +42,7 @@ abbrev pub HeardSteps : Moves SeatState
 HeardSteps old ask answer new = (secret : List ℕ) × Hears old ask secret answer new
 
 -- A connection that was served: from when nothing had been read or written over it until all this was, it had a
--- conversation over a seat, each of whose answers is what the seat heard.
+-- conversation over some seat, each of whose answers is what that seat heard. It need not be the worker's.
 pub record IsServed (given : TranscriptState) (taken : List ℕ) : Type 0 where
   pub max_body : ℕ
   pub old : ConnectionState SeatState
@@ -55,9 +55,9 @@ pub record IsServed (given : TranscriptState) (taken : List ℕ) : Type 0 where
   pub conversation : IsConversation HeardSteps max_body old new end
 
 -- each connection of these doors that was served may come back
-abbrev pub ServedComeBack : {L In Out : Type 0} → (In → TranscriptState) → (Out → List ℕ) → (L → In × Out → Type 0)
+abbrev pub DoorsTakeBack : {L In Out : Type 0} → (In → TranscriptState) → (Out → List ℕ) → (L → In × Out → Type 0)
     → Type 0
-ServedComeBack {L} {In} {Out} given taken may_come_back = (door : L) (source : In) (sink : Out)
+DoorsTakeBack {L} {In} {Out} given taken may_come_back = (door : L) (source : In) (sink : Out)
     → IsServed (given source) (taken sink) → may_come_back door (source, sink)
 
 -- The workers of a pool that began with this service served so many connections each, each over a door of its own. The

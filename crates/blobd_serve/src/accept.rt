@@ -40,8 +40,8 @@ pub(crate) type Reader<'a, L, R> = Counted<Half<'a, <L as Accepts>::In, R>>;
 /// What replies are written to.
 pub(crate) type Writer<'a, L, R> = Counted<Half<'a, <L as Accepts>::Out, R>>;
 
-/// The connections of one worker: the next ones that come to it, up to a count. Contracts see where they come from, and how
-/// many are left.
+/// The connections of one worker: the next ones that come to it, up to a count. Contracts see where they come from, how
+/// many are left, and what is asked of their clients.
 #[derive(Drop)]
 pub(crate) struct Accepted<'a, L: Accepts, R> {
     rt: &'a R,
@@ -66,7 +66,7 @@ impl<'a, L: Accepts, R> Model for Accepted<'a, L, R> {
 
     ghost Value = { AcceptedState L };
 
-    ghost view = { λ a. record { door = a.door; left = a.left } };
+    ghost view = { λ a. record { door = a.door; left = a.left; demand = a.demand } };
 
     ghost invariant = { λ a. a.is_lent ≡ false → L.is_free a.door };
 }
@@ -86,7 +86,8 @@ impl<'a, L: Accepts + Drop, R: Clock + Eprint + Wait> Accepted<'a, L, R> {
         lines: Option<LogLines>,
     ) -> Result<Accepted<'a, L, R>, AllocError>
         requires { L.is_free door }
-        ensures { IfOk result (λ conns. (conns.left ≡ terms.count) × (conns.door ≡ door)) }
+        ensures { IfOk result (λ conns.
+            conns ≡ record { door = door; left = terms.count; demand = terms.demand }) }
     {
         Ok(Accepted {
             rt,
@@ -111,7 +112,7 @@ impl<'a, L: Accepts + Drop, R: Clock + Eprint + Wait> Accepted<'a, L, R> {
 
     /// Tells of an error on standard error. If there is a log, it is a line of that: no worker waits for who reads it.
     fn tell(&mut self, what: &str, error: &io::Error)
-        ensures { (self.new.left ≡ self.old.left) × (self.new.door ≡ self.old.door) }
+        ensures { self.new ≡ self.old }
     {
         let rt = self.rt;
         let Some(lines) = &mut self.lines else {
@@ -127,7 +128,7 @@ impl<'a, L: Accepts + Drop, R: Clock + Eprint + Wait> Accepted<'a, L, R> {
 
     /// Tells why no connection comes any more, unless the server has ended: that was told.
     fn tell_last(&mut self, error: &io::Error)
-        ensures { (self.new.left ≡ self.old.left) × (self.new.door ≡ self.old.door) }
+        ensures { self.new ≡ self.old }
     {
         if !self.door.has_ended() {
             self.tell("takes no more connections", error);
@@ -136,7 +137,7 @@ impl<'a, L: Accepts + Drop, R: Clock + Eprint + Wait> Accepted<'a, L, R> {
 
     /// Waits a little behind this error. The first is told, and no other: nobody may read it.
     fn wait(&mut self, error: &io::Error)
-        ensures { (self.new.left ≡ self.old.left) × (self.new.door ≡ self.old.door) }
+        ensures { self.new ≡ self.old }
     {
         if !self.is_told {
             self.is_told = true;

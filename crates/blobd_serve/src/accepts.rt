@@ -19,8 +19,8 @@ pub trait Timed {
 }
 
 /// The connections of one worker, one after the other. A worker has no other way to get one, and gives each back before it
-/// gets the next. So that this binds a server that never returns too, each call asks for it: what has to be known before it
-/// is known to whoever was lent these (`serve_over`), and nobody else can know it of any of them.
+/// gets the next. Both calls have a premise, so that this binds a server that never returns too. Whoever is lent these
+/// knows when the premises hold (`serve_over`); nobody else can, since nothing is known of `is_free` and `may_come_back`.
 pub trait Accepts {
     ghost use Rattle.std.specs.Prelude.{List};
     ghost use Rattle.blobd_shared.specs.Connections.{ConnEvent};

@@ -4,7 +4,7 @@ ghost use Rattle.std.specs.Prelude.{vec_capacity, vec_len};
 ghost use Rattle.upload_intake.specs.Pools.Working.{lending, means};
 ghost use Rattle.upload_intake.specs.Safety.{Leads};
 ghost use Rattle.blobd_serve.specs.Doors.{doors_of, lefts_of};
-ghost use Rattle.blobd_serve.specs.Serving.{EndsKeeping, IsKeptOver, ServedComeBack};
+ghost use Rattle.blobd_serve.specs.Serving.{EndsKeeping, IsKeptOver, DoorsTakeBack};
 
 use crate::accept::{Accepted, Reader, Terms, Writer};
 use crate::accepts::Accepts;
@@ -52,7 +52,7 @@ where
     requires leads { Leads (K.start kept.keeping) (K.kept kept.keeping) kept.since kept.service }
     requires waiting { K.waiting kept.keeping ≡ [] }
     requires begun { kept.since ≤ K.last kept.keeping }
-    requires license { ServedComeBack L.In.given L.Out.taken L.may_come_back }
+    requires come_back { DoorsTakeBack L.In.given L.Out.taken L.may_come_back }
     ensures served { IfOk result (λ ended. IsKeptOver
         (means
         (lending ⟦<Accepted<'a, L, R> as Conns>⟧.gives ⟦<Accepted<'a, L, R> as Conns>⟧.takes_back
@@ -111,7 +111,7 @@ where
     requires waiting { K.waiting kept.keeping ≡ [] }
     requires begun { kept.since ≤ K.last kept.keeping }
     requires free { All L.is_free doors.items }
-    requires license { ServedComeBack L.In.given L.Out.taken L.may_come_back }
+    requires come_back { DoorsTakeBack L.In.given L.Out.taken L.may_come_back }
     ensures { EndsKeeping
         (means
         (lending ⟦<Accepted<'a, L, R> as Conns>⟧.gives ⟦<Accepted<'a, L, R> as Conns>⟧.takes_back

@@ -7,7 +7,7 @@ ghost use Rattle.upload_intake.specs.Pools.Working.{lending, means};
 ghost use Rattle.upload_service.specs.Machine.{empty_state};
 ghost use Rattle.blobd_serve.specs.Limits.{program_limits};
 ghost use Rattle.blobd_serve.specs.Doors.{doors_of, lefts_of};
-ghost use Rattle.blobd_serve.specs.Serving.{EndsServing, IsServedOver, ServedComeBack};
+ghost use Rattle.blobd_serve.specs.Serving.{EndsServing, IsServedOver, DoorsTakeBack};
 
 use crate::accept::{Accepted, Reader, Terms, Writer};
 use crate::accepts::Accepts;
@@ -60,7 +60,7 @@ where
     requires left { All (λ left. left ≡ terms.count) (lefts_of workers.items) }
     requires none { room.items ≡ [] }
     requires room { vec_len workers ≤ vec_capacity room }
-    requires license { ServedComeBack L.In.given L.Out.taken L.may_come_back }
+    requires come_back { DoorsTakeBack L.In.given L.Out.taken L.may_come_back }
     ensures served { IfOk result (λ ended. IsServedOver
         (means
         (lending ⟦<Accepted<'a, L, R> as Conns>⟧.gives ⟦<Accepted<'a, L, R> as Conns>⟧.takes_back
@@ -121,7 +121,7 @@ where
     W: Write,
     requires some { 0 < vec_len doors }
     requires free { All L.is_free doors.items }
-    requires license { ServedComeBack L.In.given L.Out.taken L.may_come_back }
+    requires come_back { DoorsTakeBack L.In.given L.Out.taken L.may_come_back }
     ensures { EndsServing
         (means
         (lending ⟦<Accepted<'a, L, R> as Conns>⟧.gives ⟦<Accepted<'a, L, R> as Conns>⟧.takes_back

@@ -57,7 +57,7 @@ where
     S: Secrets + Send + Drop,
     G: Gate + Send + Drop,
     O: Observer + Send + Drop,
-    requires license { ServedComeBack
+    requires come_back { ServedComeBack
         (means (lending C.gives C.takes_back C.In.state C.Out.state) S.draws G.watches O.told)
         C.may_come_back }
     ensures served { IfOk result (λ pair. IsServedPool

@@ -285,7 +285,7 @@ where
     requires leads { Leads (K.start kept.keeping) (K.kept kept.keeping) kept.since kept.service }
     requires waiting { K.waiting kept.keeping ≡ [] }
     requires begun { kept.since ≤ K.last kept.keeping }
-    requires license { ServedComeBack
+    requires come_back { ServedComeBack
         (means (lending C.gives C.takes_back C.In.state C.Out.state) S.draws G.watches O.told)
         C.may_come_back }
     ensures served { IfOk result (λ r. IsKeptPool
@@ -321,7 +321,7 @@ where
             requires leads { LeadsTo (K.start keeping) (K.kept keeping) keeper }
             requires waiting { K.waiting keeping ≡ [] }
             requires begun { now_of keeper ≤ K.last keeping }
-            requires license { ServedComeBack
+            requires come_back { ServedComeBack
                 (means (lending C.gives C.takes_back C.In.state C.Out.state) S.draws
                 G.watches O.told) C.may_come_back }
             requires cross { IsSend C.row × IsSend S.row × IsSend G.row × IsSend O.row
@@ -355,7 +355,7 @@ where
                 };
                 let stack = Stack::new().stack_size(STACK);
                 let run = move || -> Leaving<C, S, G, O>
-                    requires license { ServedComeBack
+                    requires come_back { ServedComeBack
                         (means (lending C.gives C.takes_back C.In.state C.Out.state) S.draws
                         G.watches O.told) C.may_come_back }
                     ensures { Works

@@ -186,7 +186,7 @@ where
     G: Gate + Send + Drop,
     O: Observer + Send + Drop,
     requires workers { 0 < vec_len workers }
-    requires license { ServedComeBack
+    requires come_back { ServedComeBack
         (means (lending C.gives C.takes_back C.In.state C.Out.state) S.draws G.watches O.told)
         C.may_come_back }
     ensures served { IfOk result (λ pool. IsServedPool

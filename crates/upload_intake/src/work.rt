@@ -108,7 +108,7 @@ where
     S: Secrets + Drop,
     G: Gate + Drop,
     O: Observer + Drop,
-    requires license { ServedComeBack
+    requires come_back { ServedComeBack
         (means (lending C.gives C.takes_back C.In.state C.Out.state) S.draws G.watches O.told)
         C.may_come_back }
     ensures seat { IsSameSeat seat result.seat }
@@ -166,7 +166,7 @@ where
     S: Secrets + Drop,
     G: Gate + Drop,
     O: Observer + Drop,
-    requires license { ServedComeBack
+    requires come_back { ServedComeBack
         (means (lending C.gives C.takes_back C.In.state C.Out.state) S.draws G.watches O.told)
         C.may_come_back }
     ensures { Works

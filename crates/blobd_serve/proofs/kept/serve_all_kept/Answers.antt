@@ -40,7 +40,7 @@ returns-clause-took g c = λ took. record {
 }
 
 -- what a worker served may come back to its door
-pub serve_kept-requires-clause-license : goal.serve_kept-requires-clause-license
-serve_kept-requires-clause-license g c κs within = λ max_body before given t gave.
-    c.requires.license given.door t.reader_left.end.stream t.writer_left.end.stream
+pub serve_kept-requires-clause-come_back : goal.serve_kept-requires-clause-come_back
+serve_kept-requires-clause-come_back g c κs within = λ max_body before given t gave.
+    c.requires.come_back given.door t.reader_left.end.stream t.writer_left.end.stream
     (is_served _ max_body t (ap (λ t. t.bytes) gave.1) gave.2)

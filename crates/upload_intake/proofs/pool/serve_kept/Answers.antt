@@ -29,7 +29,7 @@ scoped-requires g c =
                         ≤ g.K.Keeping.last c.args.kept.keeping) (λ i. (sym made.since i, sym made.log i))
                         c.requires.begun,
                     (
-                      c.requires.license,
+                      c.requires.come_back,
                       (
                         (
                           search sendable depth 20,

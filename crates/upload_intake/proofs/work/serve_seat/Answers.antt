@@ -71,7 +71,7 @@ take_back-requires g c =
     g.S.Secrets.draws g.G.Gate.watches
     g.O.Observer.told in
     let limit = c.loop.server.max_body in
-    c.requires.license limit c.loop.conns c.next_conn.new.self
+    c.requires.come_back limit c.loop.conns c.next_conn.new.self
     (talk_of m limit c.in-Some-next_conn.source c.serve-ended.new.reader c.in-Some-next_conn.sink
     c.serve-ended.new.writer c.loop.desk c.serve-ended.new.desk c.loop.observer c.serve-ended.new.observer
     c.serve-ended.result c.serve-ended.ensures.told)

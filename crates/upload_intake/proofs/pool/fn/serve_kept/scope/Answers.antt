@@ -15,7 +15,7 @@ use Rattle.upload_intake.proofs.pool.fn.serve_kept.scope.Goals as goal
 pub spawn_scoped_with-requires-clause-runs : goal.spawn_scoped_with-requires-clause-runs
 spawn_scoped_with-requires-clause-runs g c κs within =
     let s = c.requires.cross in (
-      c.requires.license,
+      c.requires.come_back,
       (
         search (sendable, s) depth 20,
         search (sendable, s) depth 20,
