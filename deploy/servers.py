@@ -10,6 +10,7 @@ import glob
 import ipaddress
 import math
 import os
+import random
 import shutil
 import signal
 import socket
@@ -30,6 +31,8 @@ GOING = 3
 # how many lines of a log are shown
 LINES = 10
 DIES_WITH_PARENT = 1
+# below those that Linux gives to connections
+FREE_PORTS = 10_000, 32_768
 
 # How to see that a package of Debian's is there that isn't named as its program is.
 PACKAGES = {"lua-cjson": lambda: glob.glob("/usr/lib/*/lua/5.*/cjson.so"), "nginx-light": lambda: program("nginx")}
@@ -41,13 +44,6 @@ def program(name):
 
 def missing(*packages):
     return [name for name in packages if not PACKAGES.get(name, lambda: program(name))()]
-
-
-def free_address():
-    """An address that nobody listens on now."""
-    with socket.socket() as free:
-        free.bind(("127.0.0.1", 0))
-        return "127.0.0.1:%d" % free.getsockname()[1]
 
 
 def place(address):
@@ -76,6 +72,14 @@ def is_taken(address):
         # who is to listen there says what else is wrong
         return getattr(fault, "errno", None) == errno.EADDRINUSE
     return False
+
+
+def free_address():
+    """An address that nobody listens on now. Its port is none that the system gives to connections, so none of them has it
+    by the time that it is listened on."""
+    while is_taken(address := f"127.0.0.1:{random.randrange(*FREE_PORTS)}"):
+        pass
+    return address
 
 
 def any_taken(addresses):

@@ -437,5 +437,28 @@ def closes_at_once_share_a_hash():
                 check(f"{name}: others are answered", are_answered, told)
 
 
+@case("cc")
+def many_bytes_go_in_a_thread(folder):
+    """The bytes of a body that is refused, and of a blob whose place another takes, go in a thread if they are many, so
+    that nobody waits for that. Few go where their request is served."""
+    told, content, other = os.path.join(folder, "told"), bytes(20 * MIB), bytes([1]) * (20 * MIB)
+    counted = shims.loaded(folder, "threads", THREADS_TOLD=told)
+    with Server(env=counted | {"BLOBD_WORKERS": 1}) as server, server.client() as client:
+
+        def begun(*request, **fields):
+            """The status of a request, and how many threads began meanwhile."""
+            before = len(shims.told(told))
+            status = client.ask(*request, **fields).status
+            return status, len(shims.told(told)) - before
+
+        place, whole = client.opened("lib/a"), f"{UPLOADS}?digest={sha256(content)}"
+        for name, size, threads in (("few", MIB, 0), ("many", len(content), 1)):
+            missed = begun("PATCH", place, content[:size], Content_Range=f"1-{size}")
+            equal(f"a chunk of {name} bytes that misses its place", missed, (416, threads))
+        equal("a blob", begun("POST", whole, content), (201, 0))
+        equal("the same again, which takes its place", begun("POST", whole, content), (201, 1))
+        equal("other bytes under its digest", begun("POST", whole, other), (400, 1))
+
+
 if __name__ == "__main__":
     main(__doc__)
