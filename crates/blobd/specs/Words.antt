@@ -44,8 +44,8 @@ AreFolderWords switch words path true =
 abbrev pub IsGrace : List ℕ → ℕ → Type 0
 IsGrace word number = IsWithin 0 1000000000 word number
 
--- Behind k words a directory follows, and nothing says what stays; or it and a list follow, and what was stored within a
--- day stays too; or a switch and that time stand before them.
+-- Behind k words a directory follows, and nothing says what stays; or it and a list follow, and what was stored within
+-- a day stays too; or a switch and that time stand before them.
 abbrev pub AreKeepWords : List (Bor (List ℕ)) → ℕ → List ℕ → Option Keep → Type 0
 AreKeepWords words k path None =
     (length words ≡ k + 1) × (word_at words k ≢ codes "--grace") × (path ≡ word_at words k)

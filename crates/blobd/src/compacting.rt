@@ -33,8 +33,8 @@ fn print_no_list(rt: &HostRuntime, list: &str, fault: &ListFault) -> u8 {
     print_line(&mut io::writer(rt), "refused: keep", REFUSED)
 }
 
-/// Tells on standard error if bodies or records of a directory are missing, of which so much would go, and what goes for
-/// good. A server may add to its journal meanwhile, so it is looked at again.
+/// Tells on standard error if bodies or records of a directory are missing, of which so much would go, and what goes
+/// for good. A server may add to its journal meanwhile, so it is looked at again.
 fn tell_its_end(rt: &HostRuntime, path: &str, waste: &Waste) {
     if !waste.is_whole {
         tell_files(rt, path);
@@ -114,8 +114,8 @@ fn run_keeping<R: Threads>(rt: &R, host: &HostRuntime, path: &str, dry: bool, ke
     }
 }
 
-/// Gives room back in the data directory at `path`, or only says what would go; gives the exit status. With a list of what
-/// is referred to, the other blobs of repositories go too, but those that are young.
+/// Gives room back in the data directory at `path`, or only says what would go; gives the exit status. With a list of
+/// what is referred to, the other blobs of repositories go too, but those that are young.
 ///
 /// `fault: data` is printed if that can't be done, and `refused: keep` if the list can't be read; standard error says why.
 pub fn run_compact<R: Threads>(

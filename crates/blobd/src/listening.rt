@@ -131,8 +131,8 @@ fn refuse_too_large<R: Eprint>(
     true
 }
 
-/// How many bytes the blobs of a data directory have, and how many its server may hold, if a want of room is why it can't
-/// be used.
+/// How many bytes the blobs of a data directory have, and how many its server may hold, if a want of room is why it
+/// can't be used.
 fn too_much(
     host: &HostRuntime,
     path: &str,
@@ -147,8 +147,8 @@ fn too_much(
     Some((status.counts.stored, may))
 }
 
-/// Says why a data directory can't be used, and what to do: if the server may not hold what it has, how much that is. If
-/// it might, a start takes more, maybe for what a compaction leaves out.
+/// Says why a data directory can't be used, and what to do: if the server may not hold what it has, how much that is.
+/// If it might, a start takes more, maybe for what a compaction leaves out.
 fn print_no_data<R: Eprint>(
     rt: &R,
     host: &HostRuntime,
@@ -207,8 +207,8 @@ fn millis_since<R: Clock>(rt: &R, begun: Option<Instant>) -> u64 {
     }
 }
 
-/// Has the journal of the data directory at `path` written anew if much of it is dead, and says so, with the time that it
-/// took. If that can't be done a start goes on, and says why, unless it comes to the same itself.
+/// Has the journal of the data directory at `path` written anew if much of it is dead, and says so, with the time that
+/// it took. If that can't be done a start goes on, and says why, unless it comes to the same itself.
 fn make_room<R: Threads + Eprint + Clock>(
     rt: &R,
     host: &HostRuntime,

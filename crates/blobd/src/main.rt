@@ -206,8 +206,8 @@ fn print_no_memory_size(rt: &HostRuntime) -> u8 {
     NO_COMMAND
 }
 
-/// How many bytes a server with so many workers may hold, as the environment says, or else as the machine does. An error
-/// is the exit status if the environment says anything else, or out of memory.
+/// How many bytes a server with so many workers may hold, as the environment says, or else as the machine does. An
+/// error is the exit status if the environment says anything else, or out of memory.
 fn memory_of(rt: &HostRuntime, workers: usize) -> Result<Option<u64>, u8> {
     match env::var(rt, MEMORY) {
         Ok(value) => match read_memory(value.as_str()) {

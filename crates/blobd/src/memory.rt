@@ -9,8 +9,8 @@ const STACK_SPACE: u64 = 1_048_576;
 /// What a thread reserves of it for a heap of its own, unless the C library is told to have one for all.
 const HEAP_SPACE: u64 = 67_108_864;
 
-/// What a worker holds beside what it is granted, at most: of a body that arrives, a part that has just come whole, and room
-/// for the next.
+/// What a worker holds beside what it is granted, at most: of a body that arrives, a part that has just come whole,
+/// and room for the next.
 const BESIDE: u64 = 8_388_608;
 
 /// A page, in which the kernel counts.
@@ -106,9 +106,9 @@ fn groups_limit<R: Files + AllocGlobal>(rt: &R) -> Option<u64> {
 }
 
 /// How many bytes a server with so many threads may hold, if the C library is told this: three quarters of the least of
-/// the memory of the machine, the limits of its control groups, and the limit on its address space less what it takes and
-/// the threads reserve; but first each thread has what it may hold beside what it is granted. A limit that can't be read
-/// doesn't count. `None` if none can be.
+/// the memory of the machine, the limits of its control groups, and the limit on its address space less what it takes
+/// and the threads reserve; but first each thread has what it may hold beside what it is granted. A limit that can't
+/// be read doesn't count. `None` if none can be.
 pub fn usual_memory<R: Files + AllocGlobal>(rt: &R, threads: u64, told: &str) -> Option<u64> {
     let limit = least(machine_limit(rt), groups_limit(rt));
     let limit = least(limit, space_limit(rt, threads, told))?;

@@ -41,8 +41,8 @@ pub enum Command<'w> {
         file: &'w str,
         chunk: u64,
     },
-    /// Writes the journal of the folder at `path` anew, or says how much would go. With a list of what is referred to, all
-    /// else goes too.
+    /// Writes the journal of the folder at `path` anew, or says how much would go. With a list of what is referred to,
+    /// all else goes too.
     Compact {
         path: &'w str,
         dry: bool,

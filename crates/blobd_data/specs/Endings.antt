@@ -6,8 +6,8 @@ use Rattle.journal.specs.declared.looking.Looked.{Looked}
 use Rattle.blobd_data.specs.declared.open.Missing.{Missing}
 use Rattle.blobd_data.specs.declared.open.Missing.TheVariants.{None, Here, Before}
 
--- Records are lost at an end that no crash leaves; or they were before, if there is the mark of a start that has gone on
--- without them.
+-- Records are lost at an end that no crash leaves; or they were before, if there is the mark of a start that has gone
+-- on without them.
 abbrev pub missing_by : Ending → Bool → Missing
 missing_by Broken mark = Here
 missing_by ending true = Before

@@ -185,8 +185,9 @@ fn look_at<D: Disk>(
     }
 }
 
-/// The same of the journal of the directory at `path`, before it is recovered, which would write over what can be mended. If
-/// a crash may have left its end so, what a damaged sector hides there is brought back first, as by a start.
+/// The same of the journal of the directory at `path`, before it is recovered, which would write over what can be
+/// mended. If a crash may have left its end so, what a damaged sector hides there is brought back first, as by a
+/// start.
 fn look_first<D: Disk>(
     rt: &HostRuntime,
     path: &str,

@@ -38,8 +38,8 @@ fn are_whole<D: Disk>(
 /// the service may hold. None if it isn't, or isn't sure: something is damaged, or can't be read, as whoever opens the
 /// directory is told.
 ///
-/// The records are read only if the files and the journal have more bytes than that, and no body is; nothing is locked or
-/// written.
+/// The records are read only if the files and the journal have more bytes than that, and no body is; nothing is locked
+/// or written.
 pub fn stored_beyond<J: Start>(
     rt: &HostRuntime,
     path: &str,

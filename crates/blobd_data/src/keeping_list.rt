@@ -77,8 +77,8 @@ fn note_lines(alloc: Global, text: &str, leaving: &mut Leaving) -> Result<(), Li
 }
 
 /// Reads a list of what is referred to, from the file at `path`, or from standard input if that is `-`: a line `NAME
-/// DIGEST` for each blob of a repository. Of what it doesn't have only that stays of which a batch has the time `since` or
-/// a later one, in seconds since 1970.
+/// DIGEST` for each blob of a repository. Of what it doesn't have only that stays of which a batch has the time
+/// `since` or a later one, in seconds since 1970.
 ///
 /// An empty list, one without an end of its last line, and a line of anything else are refused.
 pub fn read_list(rt: &HostRuntime, path: &str, since: u64) -> Result<Leaving, ListFault> {

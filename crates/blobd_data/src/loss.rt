@@ -174,7 +174,8 @@ pub fn tell_final<R: Eprint>(rt: &R, path: &str, unnamed: Amount) {
     );
 }
 
-/// Tells on standard error that files which records of the directory at `path` name are missing, or have another length.
+/// Tells on standard error that files which records of the directory at `path` name are missing, or have another
+/// length.
 pub fn tell_files<R: Eprint>(rt: &R, path: &str) {
     let _ = eprintln!(rt;
         "blobd: damage in {path}: a body that a record names is missing, or has another length: a start says which, and a compaction is refused"

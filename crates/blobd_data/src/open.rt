@@ -80,7 +80,8 @@ pub enum Damaged {
 pub enum Missing {
     /// Nothing does.
     None,
-    /// The journal ends as no crash leaves it, or is a copy that was made while a server wrote: what stood there is lost.
+    /// The journal ends as no crash leaves it, or is a copy that was made while a server wrote: what stood there is
+    /// lost.
     Here,
     /// It ended so before, and a start has gone on without them. No file was removed since.
     Before,
@@ -214,8 +215,8 @@ pub(crate) fn has_bodies<S: Shelf>(rt: &HostRuntime, shelf: &mut S) -> Result<bo
     }
 }
 
-/// Refuses bodies that have no journal: nothing says what they are, and the next start would remove them as what no record
-/// names.
+/// Refuses bodies that have no journal: nothing says what they are, and the next start would remove them as what no
+/// record names.
 fn refuse_bodies<S: Shelf>(rt: &HostRuntime, shelf: &mut S) -> Result<(), DataFault> {
     if has_bodies(rt, shelf)? {
         return Err(DataFault::NoJournal);
@@ -266,8 +267,8 @@ fn sweep_mended<D: Disk, S: Shelf>(
     sweep(rt.alloc(), journal, shelf)
 }
 
-/// Brings back each batch that a damaged sector hides, up to so many. Says how many sectors there were. The journal is read
-/// once more for each.
+/// Brings back each batch that a damaged sector hides, up to so many. Says how many sectors there were. The journal is
+/// read once more for each.
 pub(crate) fn mend_all<D: Disk>(
     rt: &HostRuntime,
     journal: &mut Journal<D>,
@@ -280,8 +281,8 @@ pub(crate) fn mend_all<D: Disk>(
     Ok(MOST_MENDED)
 }
 
-/// Has a journal that ends as no crash leaves it go on from there, if the directory isn't refused for it. Says what tells
-/// of lost records.
+/// Has a journal that ends as no crash leaves it go on from there, if the directory isn't refused for it. Says what
+/// tells of lost records.
 fn settle_end<D: Disk>(
     rt: &HostRuntime,
     journal: &mut Journal<D>,
@@ -425,8 +426,9 @@ fn open_store<R: Threads, J: Start, S: Start, H: Holds, T: KeepingHost + Drop>(
 }
 
 /// Opens the data directory at `path`, for a service with these limits. One that isn't there is made, with mode 0700.
-/// No other server can have it from then on. What its journal has is run again, so that the service is as it was, but for
-/// what is lost of a directory that is damaged, if `damaged` has it opened all the same. The service holds no more than
+/// No other server can have it from then on. What its journal has is run again, so that the service is as it was, but
+/// for what is lost of a directory that is damaged, if `damaged` has it opened all the same. The service holds no more
+/// than
 /// `room` grants, if there is one. The bodies that the journal names are read, and hashed, in threads, which have ended by
 /// then. Which values stand for `J`, `S` and `H` says nothing: what holds of all of them holds of what is there.
 ///

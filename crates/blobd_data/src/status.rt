@@ -78,8 +78,8 @@ pub fn missing_of(looked: Looked) -> Missing
     }
 }
 
-/// What a journal holds, and how it ends. It may be a server's, who adds to it meanwhile: between two reads it may look as
-/// a broken one does. So one that seems to be broken is looked at again.
+/// What a journal holds, and how it ends. It may be a server's, who adds to it meanwhile: between two reads it may
+/// look as a broken one does. So one that seems to be broken is looked at again.
 fn census_of<D: Disk>(
     rt: &HostRuntime,
     journal: &mut Journal<D>,
@@ -95,8 +95,8 @@ fn census_of<D: Disk>(
     Ok(last)
 }
 
-/// What the data directory at `path` holds, of a service with these limits. Its journal is read as it stands, also while
-/// a server has it: nothing is locked or written, and no body is read.
+/// What the data directory at `path` holds, of a service with these limits. Its journal is read as it stands, also
+/// while a server has it: nothing is locked or written, and no body is read.
 ///
 /// `Journal`: the journal isn't there, or can't be opened. `EmptyJournal`: there are bodies, and it was cut before its
 /// first record. `Bodies`: they can't be listed then. `Store`: it has another format, another version or other limits,

@@ -66,9 +66,9 @@ fn files_in(rt: &HostRuntime, path: &str) -> Result<Vec<BodyThere>, CompactingFa
     }
 }
 
-/// The files of the directory at `path` that no record of its journal names, and whether those that one names are whole.
-/// They are listed before the journal is read: a server that has the directory makes a file before it names it. So one
-/// that seems to be missing is looked for again.
+/// The files of the directory at `path` that no record of its journal names, and whether those that one names are
+/// whole. They are listed before the journal is read: a server that has the directory makes a file before it names it.
+/// So one that seems to be missing is looked for again.
 fn unnamed_in<J: Start>(
     rt: &HostRuntime,
     path: &str,

@@ -15,9 +15,9 @@ use upload_service::Limits;
 /// How many bytes have to go, or the rest isn't looked at.
 const LEAST: u64 = 67_108_864;
 
-/// Whether a journal of so many bytes is worth to be written anew: 64 MiB or more would go, and that is more than half of
-/// the journal, or more than a tenth of the files. What stands between records goes, too: a batch of one small record
-/// takes 8 KiB.
+/// Whether a journal of so many bytes is worth to be written anew: 64 MiB or more would go, and that is more than half
+/// of the journal, or more than a tenth of the files. What stands between records goes, too: a batch of one small
+/// record takes 8 KiB.
 pub fn is_worth(weight: &Weight, length: u64) -> bool
     ensures { IsTrue result ↔ IsWorth weight.now length }
 {
@@ -40,9 +40,9 @@ fn see_it_fits(weight: &Weight, memory: Option<u64>) -> Result<(), CompactingFau
     Ok(())
 }
 
-/// Has the journal of the data directory at `path` written anew, as `compact_data` does, if that is worth it (`is_worth`),
-/// within so many bytes of memory if there is a limit. Says what room was made, if any was. Nothing is done about a
-/// journal that can't be read or is damaged: whoever opens the directory is told so.
+/// Has the journal of the data directory at `path` written anew, as `compact_data` does, if that is worth it
+/// (`is_worth`), within so many bytes of memory if there is a limit. Says what room was made, if any was. Nothing is
+/// done about a journal that can't be read or is damaged: whoever opens the directory is told so.
 ///
 /// `TooLarge`: it would take more memory. `CutOff`: a new journal lies there that didn't take its place, so that whoever
 /// began it may have been ended for it. Other errors are those of `compact_data`.

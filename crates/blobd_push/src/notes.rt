@@ -26,8 +26,8 @@ fn behind<'t>(bytes: &'t [u8], mark: &[u8]) -> Option<&'t [u8]> {
     None
 }
 
-/// What is known of a server's kind once these bytes of it were read. Its adapter marks each reply; a state stands in the
-/// Location of a reply that tells where an upload is.
+/// What is known of a server's kind once these bytes of it were read. Its adapter marks each reply; a state stands in
+/// the Location of a reply that tells where an upload is.
 fn kind_after(before: Kind, read: &[u8]) -> Kind {
     if behind(read, b"blobd-adapter").is_some() {
         Kind::Adapter
@@ -84,7 +84,8 @@ impl fmt::Display for Message {
 /// What is noted of a request, and of those before it that weren't heard.
 #[derive(Drop)]
 pub(crate) struct Notes {
-    /// When the first of them began; none if the clock can't be read, or once it was told that the server is waited for.
+    /// When the first of them began; none if the clock can't be read, or once it was told that the server is waited
+    /// for.
     begun: Cell<Option<Instant>>,
     /// What keeps it from being heard.
     trouble: Cell<Trouble>,

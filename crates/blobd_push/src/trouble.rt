@@ -295,7 +295,8 @@ pub(crate) enum Reason {
     Lost(Trouble, u64),
 }
 
-/// What kept the last request of a push from being heard, by its trouble: a server that has opened an upload speaks HTTP.
+/// What kept the last request of a push from being heard, by its trouble: a server that has opened an upload speaks
+/// HTTP.
 fn last_trouble(trouble: Trouble, opened: bool) -> Trouble
     ensures { result ≡ last_trouble trouble opened }
 {

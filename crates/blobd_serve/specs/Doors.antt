@@ -3,7 +3,8 @@ use Rattle.std.specs.Prelude.{ℕ, List, map}
 use Rattle.upload_intake.specs.declared.work.Worker.{Worker}
 use Rattle.blobd_serve.specs.declared.paced.Demand.{Demand}
 
--- the connections of a worker: the door that they come through, how many more it takes, and what is asked of their clients
+-- the connections of a worker: the door that they come through, how many more it takes, and what is asked of their
+-- clients
 pub record AcceptedState (L : Type 0) : Type 0 where
   pub door : L
   pub left : ℕ

@@ -4,11 +4,12 @@
 //! with a service that was there before, and whose changes are kept. `service_limits` has the limits of the service. A
 //! worker's connections come over a door that is lent to it (`accepts`): for `blobd serve` that is a `listener`. They
 //! are taken in their order (`accept`, and `steps` for an accept that failed), cut if the client is too slow (`paced`),
-//! and closed by a thread of their own (`closing`). Once a change can't be kept, nobody is waited for (`shutting`). Each
-//! request is logged if the terms say so: `request_log` says what a line has, `shown` and `time_of_day` how it shows a
-//! target and the time, `log_lines` what becomes of it; `holdings` has it say what the service holds. With a log or
-//! without one, `fullness` says when it is told that requests find no room. `background` has what the thread that closes
-//! and the one that writes the log have in common. `laws` joins a worker's connections to the laws from end to end.
+//! and closed by a thread of their own (`closing`). Once a change can't be kept, nobody is waited for (`shutting`).
+//! Each request is logged if the terms say so: `request_log` says what a line has, `shown` and `time_of_day` how it
+//! shows a target and the time, `log_lines` what becomes of it; `holdings` has it say what the service holds. With a
+//! log or without one, `fullness` says when it is told that requests find no room. `background` has what the thread
+//! that closes and the one that writes the log have in common. `laws` joins a worker's connections to the laws from
+//! end to end.
 #![tactic(auto)]
 
 mod accept;

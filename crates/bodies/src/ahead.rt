@@ -111,9 +111,9 @@ impl<'a, R: Threads> UnderWay<'a, R> {
     }
 }
 
-/// A shelf whose bodies are read before they are asked for, by threads: each reads one body, or those of one upload. There
-/// are so many threads at a time as there are processors, and as many whose bodies wait to be asked for. No more are
-/// begun while these have as many bytes as they may.
+/// A shelf whose bodies are read before they are asked for, by threads: each reads one body, or those of one upload.
+/// There are so many threads at a time as there are processors, and as many whose bodies wait to be asked for. No more
+/// are begun while these have as many bytes as they may.
 #[derive(Drop)]
 pub struct AheadShelf<'a, R: Threads, S: Lends> {
     rt: &'a R,
@@ -131,8 +131,8 @@ pub struct AheadShelf<'a, R: Threads, S: Lends> {
 impl<'a, R: Threads, S: Lends> AheadShelf<'a, R, S> {
     ghost use Rattle.bodies.specs.AheadShelf.{inner_of};
 
-    /// Reads ahead what the hints tell, in the order of their first files: bodies of up to `most_ahead` bytes together, and
-    /// those of one more hint. Others are read as they are asked for.
+    /// Reads ahead what the hints tell, in the order of their first files: bodies of up to `most_ahead` bytes
+    /// together, and those of one more hint. Others are read as they are asked for.
     pub fn new(
         rt: &'a R,
         alloc: Global,

@@ -3,8 +3,8 @@ use std::alloc::{AllocError, Global};
 use std::sync::Arc;
 use std::sync::atomic::{AtomicU64, Ordering};
 
-/// How many bytes of bodies were read, by a shelf and by all that it lent. No contract speaks of it: it is for people who
-/// look on.
+/// How many bytes of bodies were read, by a shelf and by all that it lent. No contract speaks of it: it is for people
+/// who look on.
 #[derive(Drop)]
 pub struct Counter {
     count: Arc<AtomicU64, Global>,

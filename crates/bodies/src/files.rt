@@ -53,8 +53,8 @@ pub struct FolderShelf<S: Start, H: Holds> {
 }
 
 impl<S: Start, H: Holds> FolderShelf<S, H> {
-    /// Opens the shelf of this name in a folder, and makes what is missing of it, each folder with mode 0700. The files of
-    /// its spool are removed: a server that was killed left them.
+    /// Opens the shelf of this name in a folder, and makes what is missing of it, each folder with mode 0700. The
+    /// files of its spool are removed: a server that was killed left them.
     pub fn open(
         rt: &HostRuntime,
         folder: &Folder,

@@ -37,13 +37,14 @@ pub enum Bond {
     OneUpload(HintedClose),
 }
 
-/// Bodies that are likely to be asked for, in the order of their files. Others may be asked for between them. Nothing rests
-/// on it but the time that its reader takes.
+/// Bodies that are likely to be asked for, in the order of their files. Others may be asked for between them. Nothing
+/// rests on it but the time that its reader takes.
 #[derive(Drop)]
 pub struct Hint {
     pub files: Vec<HintedFile>,
     pub bond: Bond,
-    /// What each body will be hashed by, if its hash is of use: that of an upload is hashed by the algorithm of its close.
+    /// What each body will be hashed by, if its hash is of use: that of an upload is hashed by the algorithm of its
+    /// close.
     pub hashed: Option<Algorithm>,
 }
 

@@ -2,8 +2,8 @@
 //! anything names it, and it never changes; one that nothing names any more is a file to remove.
 //!
 //! A `Shelf` has files by their numbers, and its contract says what a crash may leave at each number (`shelf`). A body
-//! is begun, written piece by piece (`body`), and finished (`writing`); or it is written in any thread into a file of the
-//! shelf's spool (`upload_bytes`), which then gets its number (`naming`).
+//! is begun, written piece by piece (`body`), and finished (`writing`); or it is written in any thread into a file of
+//! the shelf's spool (`upload_bytes`), which then gets its number (`naming`).
 //!
 //! At a start bodies are read, and hashed, in threads before they are asked for (`ahead`), from files that a shelf
 //! lends (`lending`, `reader`, `whole`). How far that has come is counted (`counter`).

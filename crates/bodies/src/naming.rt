@@ -8,8 +8,9 @@ use crate::fault::BodyFault;
 use crate::shelf::Shelf;
 use upload_bytes::SyncedFile;
 
-/// Gives this number to a file of the shelf's spool, and puts the name on the disk. At `Ok` every crash leaves exactly its
-/// bytes at the number, until it is removed. At an error nothing is to name it; what is left of it is a file to remove.
+/// Gives this number to a file of the shelf's spool, and puts the name on the disk. At `Ok` every crash leaves exactly
+/// its bytes at the number, until it is removed. At an error nothing is to name it; what is left of it is a file to
+/// remove.
 ///
 /// `Taken` says that the number has a file, `Ended` that a sync of names has failed before, and `Io` that a call failed.
 pub fn name<S: Shelf>(shelf: &mut S, number: u64, file: &SyncedFile) -> Result<(), BodyFault>

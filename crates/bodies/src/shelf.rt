@@ -100,7 +100,8 @@ pub trait Shelf {
     /// says that there is no memory.
     fn spool(&self) -> Option<Spool>;
 
-    /// Gives this number to a file of its spool. `Taken` says that the number has a file. A crash may lose the name until
+    /// Gives this number to a file of its spool. `Taken` says that the number has a file. A crash may lose the name
+    /// until
     /// `sync`.
     fn name(&mut self, number: u64, file: &SyncedFile) -> Result<(), BodyFault>
         ensures held { OnOk result (held self.new number ≡ Some file.now) }
@@ -115,8 +116,8 @@ pub trait Shelf {
             result (faults self.old) (faults self.new) }
         ensures clean { IsClean self.new → IsClean self.old };
 
-    /// Takes word of the bodies that it will be asked for from now on, in this order. A shelf that reads nothing ahead has
-    /// no use for that.
+    /// Takes word of the bodies that it will be asked for from now on, in this order. A shelf that reads nothing ahead
+    /// has no use for that.
     fn take_hints(&mut self, hints: Vec<Hint>)
         ensures same { KeepsAll held may_leave self.old self.new }
         ensures usable { is_usable self.new ≡ is_usable self.old }

@@ -106,8 +106,8 @@ fn read_joined(files: Vec<Unread>, hashed: Option<Algorithm>, alloc: Global) -> 
     })
 }
 
-/// The bodies of an upload, hashed one behind another: that of its close carries the hash. If that has no file, what the
-/// upload has received carries it.
+/// The bodies of an upload, hashed one behind another: that of its close carries the hash. If that has no file, what
+/// the upload has received carries it.
 fn read_upload(files: Vec<Unread>, close: HintedClose, alloc: Global) -> Option<Wholes> {
     let mut files = files;
     let last = if close.has_file { files.pop() } else { None };

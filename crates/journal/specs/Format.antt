@@ -93,8 +93,8 @@ sum_here bytes = sum_of (take 24 bytes)
 abbrev pub span : List ℕ → ℕ
 span bytes = whole (32 + length_in bytes)
 
--- what stands behind the gate's sector: the batch with this number, and what follows it, if its head is whole and all of
--- it is there
+-- what stands behind the gate's sector: the batch with this number, and what follows it, if its head is whole and all
+-- of it is there
 unfoldable pub behind : ℕ → List ℕ → Option (Kept × List ℕ)
 behind number bytes =
     if (number_in bytes == number) && ((sum_in bytes == sum_here bytes) && nat_le (span bytes) (length bytes)) then

@@ -28,8 +28,8 @@ AreNear one two =
     (SameAt 0 one two × SameAt 8 one two × (SameAt 16 one two ⊎ SameAt 24 one two))
     ⊎ (SameAt 16 one two × SameAt 24 one two × (SameAt 0 one two ⊎ SameAt 8 one two))
 
--- the gate at the end is open, and has a copy of the head of this batch, for which the file has room and from which what
--- stands in its place differs by one number at most
+-- the gate at the end is open, and has a copy of the head of this batch, for which the file has room and from which
+-- what stands in its place differs by one number at most
 pub record HasHead (file : List ℕ) (end count : ℕ) : Type 0 where
   pub opened : slice_index file end ≡ 1
   pub number : number_in (copy_at file end) ≡ count
@@ -37,8 +37,8 @@ pub record HasHead (file : List ℕ) (end count : ℕ) : Type 0 where
   pub fits : end + sector + span (copy_at file end) ≤ length file
   pub near : AreNear (copy_at file end) (head_at file end)
 
--- The batch at the end counts, by the head that its gate has a copy of: the gate was opened, or it was open, and that head
--- was written.
+-- The batch at the end counts, by the head that its gate has a copy of: the gate was opened, or it was open, and that
+-- head was written.
 pub record ComesBack (end count : ℕ) (old new : List ℕ) : Type 0 where
   pub found : Kept × List ℕ
   pub is : next count (drop end new) ≡ Some found
@@ -46,8 +46,8 @@ pub record ComesBack (end count : ℕ) (old new : List ℕ) : Type 0 where
   pub by : (IsShutIn old end count × Torn end sector old new)
       ⊎ ((slice_index old end ≡ 1) × Torn (end + sector) sector old new)
 
--- The file stands for what it stood for, and then for the batch at its end and what follows it, and nothing is changed but
--- the sector of that batch's gate and its first one.
+-- The file stands for what it stood for, and then for the batch at its end and what follows it, and nothing is changed
+-- but the sector of that batch's gate and its first one.
 pub record IsMended (old new : List ℕ) : Type 0 where
   pub end : ℕ
   pub count : ℕ

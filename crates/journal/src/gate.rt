@@ -95,8 +95,8 @@ pub fn stage<D: Disk>(
     disk.sync()
 }
 
-/// Opens a gate, and syncs. Behind its first byte it has a copy of the head of its batch, by which that is found again if
-/// it is damaged.
+/// Opens a gate, and syncs. Behind its first byte it has a copy of the head of its batch, by which that is found again
+/// if it is damaged.
 pub fn open_gate<D: Disk>(disk: &mut D, gate: usize, head: &[u8; HEAD_LEN]) -> io::Result<()>
     requires usable { IsTrue (D.Disk.is_usable disk.old) }
     requires begins { gate % 4096 ≡ 0 }

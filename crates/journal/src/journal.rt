@@ -383,14 +383,15 @@ impl<D: Disk> Journal<D> {
         Ok(ending)
     }
 
-    /// Brings back the batch at whose gate the file ends, by the copy of its head that a gate has once it was opened. If
-    /// the gate is shut and has a copy of the head behind it, it is opened. If it is open, and its batch isn't there, the
-    /// head is written of which it has a copy, if that has the batch's number, the file has room for it, and no more than
-    /// one of the four numbers there differs: otherwise other bytes stand there, such as another sector's. It is to be
-    /// called again until there is no such batch: what the file stands for goes on to the next damage.
+    /// Brings back the batch at whose gate the file ends, by the copy of its head that a gate has once it was opened.
+    /// If the gate is shut and has a copy of the head behind it, it is opened. If it is open, and its batch isn't
+    /// there, the head is written of which it has a copy, if that has the batch's number, the file has room for it,
+    /// and no more than one of the four numbers there differs: otherwise other bytes stand there, such as another
+    /// sector's. It is to be called again until there is no such batch: what the file stands for goes on to the next
+    /// damage.
     ///
-    /// A gate's sector has nothing of what a record has, and one that was never opened has no copy. So a crash leaves no
-    /// such end, but that of a gate that was being opened: its batch is on the disk, and comes back whole.
+    /// A gate's sector has nothing of what a record has, and one that was never opened has no copy. So a crash leaves
+    /// no such end, but that of a gate that was being opened: its batch is on the disk, and comes back whole.
     ///
     /// `true` says that there was one, and that the repair is on the disk; `false`, that nothing was written. Behind
     /// either the journal isn't open: `recover` opens it. An error is one of `recover`.
@@ -423,9 +424,9 @@ impl<D: Disk> Journal<D> {
         mend(&mut self.disk, &self.line, alloc)
     }
 
-    /// Opens a journal whose end is `Broken`, as `recover` does, but runs nothing; adds a batch without records, with the
-    /// time of day in seconds since 1970, as a mark that others are lost before it; and writes zeros over what stands
-    /// behind.
+    /// Opens a journal whose end is `Broken`, as `recover` does, but runs nothing; adds a batch without records, with
+    /// the time of day in seconds since 1970, as a mark that others are lost before it; and writes zeros over what
+    /// stands behind.
     ///
     /// An error is one of `recover` or of `append`, or says that the zeros weren't written: the mark stands then.
     pub fn go_on(&mut self, alloc: Global, time: u64) -> Result<(), Error>
@@ -487,9 +488,9 @@ impl<D: Disk> Journal<D> {
     ghost use Rattle.journal.specs.Reads.{OnlyReads};
     ghost use Rattle.journal.specs.Journal.{disk_of, line_of, is_open, end_of, count_of, room_of, kept};
 
-    /// Runs a machine over the batches of the file as it stands, and writes nothing, whether the journal is open or not.
-    /// So the file may be another one's, who adds to it meanwhile: what is added is read as far as its gates are open. A
-    /// file that was only begun has no batch.
+    /// Runs a machine over the batches of the file as it stands, and writes nothing, whether the journal is open or
+    /// not. So the file may be another one's, who adds to it meanwhile: what is added is read as far as its gates are
+    /// open. A file that was only begun has no batch.
     ///
     /// If another one adds to it meanwhile, it may end as a broken one does.
     pub fn look<M: Machine>(&mut self, alloc: Global, machine: &mut M) -> Result<Looked, Error>

@@ -2,9 +2,9 @@
 //!
 //! A file (`line`) begins with a sector that says what it is. Behind it lie batches (`batch`, `head`), each behind a
 //! gate that has a sector of its own (`gate`, `sectors`). A journal (`journal`) adds to them; a start reads them in
-//! order (`replay`), runs a machine (`machine`) over them, and repairs the end (`recovery`). `looking` has it read as it
-//! stands, `ending` says how it ends, and `mending` brings back what a damaged sector hides. `life` says what all this
-//! comes to, whatever crashes come.
+//! order (`replay`), runs a machine (`machine`) over them, and repairs the end (`recovery`). `looking` has it read as
+//! it stands, `ending` says how it ends, and `mending` brings back what a damaged sector hides. `life` says what all
+//! this comes to, whatever crashes come.
 #![tactic(auto)]
 
 mod batch;

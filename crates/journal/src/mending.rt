@@ -83,8 +83,8 @@ fn are_near(one: &[u8; HEAD_LEN], two: &[u8; HEAD_LEN]) -> bool
     number && time && (len || sum) || len && sum && (number || time)
 }
 
-/// The head that the open gate at `at` has a copy of, if it is that of this batch, the file has room for that, and no more
-/// than one number differs from it of what stands in its place.
+/// The head that the open gate at `at` has a copy of, if it is that of this batch, the file has room for that, and no
+/// more than one number differs from it of what stands in its place.
 fn copied_head<D: Disk>(
     disk: &mut D,
     len: usize,

@@ -15,7 +15,8 @@ use crate::{Error, Machine};
 use sqlite_disk::Disk;
 use std::alloc::Global;
 
-/// So much of a batch is read at once. A batch of few records takes one read, and so does the body that a record may have.
+/// So much of a batch is read at once. A batch of few records takes one read, and so does the body that a record may
+/// have.
 const PIECE: usize = 131_072;
 
 /// Reads what stands at `at`, in a file of `len` bytes.
@@ -153,7 +154,8 @@ fn apply<M: Machine>(machine: &mut M, time: u64, bytes: &[u8]) -> Result<(), Err
     }
 }
 
-/// Runs the machine over the records that stand whole at the front of these bytes, and answers how many bytes they take.
+/// Runs the machine over the records that stand whole at the front of these bytes, and answers how many bytes they
+/// take.
 fn run_whole<M: Machine>(bytes: &[u8], time: u64, machine: &mut M) -> Result<usize, Error>
     ensures ran { IfOk result (λ n. RunsPast M.steps time machine.old bytes.now n machine.new) }
     ensures within { IfOk result (λ n. n ≤ length bytes.now) }

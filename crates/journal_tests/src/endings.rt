@@ -175,7 +175,8 @@ fn a_broken_file_goes_on_with_a_mark(rt: HostRuntime) -> Result<(), Fail> {
     Ok(())
 }
 
-/// How many records are read of a file once what a damaged sector hides is brought back, if it is sure to have all then.
+/// How many records are read of a file once what a damaged sector hides is brought back, if it is sure to have all
+/// then.
 fn mended(alloc: Global, bytes: &[u8]) -> Result<usize, Error> {
     let mut journal = Journal::new(file_of(alloc, bytes)?, line()?);
     for _ in 0..GATES.len() {
@@ -303,8 +304,8 @@ fn imitation(alloc: Global) -> Result<Vec<u8>, Error> {
     }
 }
 
-/// How a file is seen of five batches and a sixth one of such a record, whose gate was never opened, behind a mending; how
-/// many records it has; and whether something was mended.
+/// How a file is seen of five batches and a sixth one of such a record, whose gate was never opened, behind a mending;
+/// how many records it has; and whether something was mended.
 fn cut_imitation(alloc: Global) -> Result<(Looked, usize, bool), Error> {
     let mut journal = Journal::new(file_of(alloc, &bytes_of(alloc)?)?, line()?);
     journal.recover(alloc, &mut empty_text(alloc))?;

@@ -5,8 +5,8 @@ use sqlite_disk::Memory;
 use std::alloc::Global;
 use std::test::Fail;
 
-/// How long the records are. A piece has 131,072 bytes, and a record takes eight more than it is long: the second is cut
-/// off, the third and the fourth are longer than a piece, and the seventh ends with one.
+/// How long the records are. A piece has 131,072 bytes, and a record takes eight more than it is long: the second is
+/// cut off, the third and the fourth are longer than a piece, and the seventh ends with one.
 const LENS: [usize; 9] = [100_000, 50_000, 200_000, 140_000, 0, 65_536, 65_512, 3, 0];
 
 fn batch(alloc: Global) -> Result<Batch, Error> {

@@ -153,7 +153,8 @@ fn read_at<P: HashPlace>(
     Ok(body.finish(place))
 }
 
-/// Ends a test in which the body that a content is read into isn't the content, or carries another hash. Gives the body.
+/// Ends a test in which the body that a content is read into isn't the content, or carries another hash. Gives the
+/// body.
 fn check_read<P: HashPlace>(
     rt: &impl Abort,
     alloc: Global,

@@ -1,5 +1,5 @@
-//! Idle uploads, whose bytes give way to others: the room comes back, and who asks is answered as ever, also if a moment
-//! falls.
+//! Idle uploads, whose bytes give way to others: the room comes back, and who asks is answered as ever, also if a
+//! moment falls.
 
 use crate::asks::{At, Kind, Unmade, body_of, name, reference, said_of};
 use crate::serving::{check, limits};

@@ -1,5 +1,5 @@
-//! A store in a folder that is opened again, also without one of its bodies: to read ahead comes to what reading in turn
-//! comes to.
+//! A store in a folder that is opened again, also without one of its bodies: to read ahead comes to what reading in
+//! turn comes to.
 use crate::served::{Served, body, limits, next_session};
 use bodies::{FolderShelf, Holds};
 use journal::{Batch, Journal, Line};

@@ -182,8 +182,8 @@ impl Blob {
         }
     }
 
-    /// Has shares of its parts kept. Of a small blob, of the last segment of a session and of what came behind the parts
-    /// of the last body there are none: these are small.
+    /// Has shares of its parts kept. Of a small blob, of the last segment of a session and of what came behind the
+    /// parts of the last body there are none: these are small.
     pub fn keep_in(&self, shares: &mut Shares) {
         match &self.shape {
             Shape::Small(_) | Shape::One(_) => {}

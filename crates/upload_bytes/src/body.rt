@@ -46,8 +46,8 @@ pub struct Behind {
 pub struct Body {
     pieces: Pieces,
     len: usize,
-    /// The hash of all the bytes, if they were hashed as they came. A hash is large, and most requests have none: it has a
-    /// place of its own, so that a request takes little time to move.
+    /// The hash of all the bytes, if they were hashed as they came. A hash is large, and most requests have none: it
+    /// has a place of its own, so that a request takes little time to move.
     running: Option<Box<Running>>,
     /// The hash of what an upload had received and all the bytes behind it, if they were hashed so.
     behind: Option<Box<Behind>>,
@@ -368,9 +368,9 @@ impl BodyBuilder {
         BodyBuilder::in_room(alloc, hashed, None)
     }
 
-    /// The same, each part of which is granted as it has come whole: one that finds no room there is an `Err` of `extend`.
-    /// What comes behind the last whole part, less than 4 MiB, isn't granted: so a small body comes whole, and whoever
-    /// takes it asks for its room (`Body::within`).
+    /// The same, each part of which is granted as it has come whole: one that finds no room there is an `Err` of
+    /// `extend`. What comes behind the last whole part, less than 4 MiB, isn't granted: so a small body comes whole,
+    /// and whoever takes it asks for its room (`Body::within`).
     pub fn within(alloc: Global, hashed: Option<Algorithm>, room: Room) -> BodyBuilder
         ensures { result ≡ [] }
     {
@@ -402,8 +402,8 @@ impl BodyBuilder {
         self.size
     }
 
-    /// Puts a piece behind the bytes. A part that has come whole is hashed and written at that place, and moves no more.
-    /// An `Err` changes nothing that is seen.
+    /// Puts a piece behind the bytes. A part that has come whole is hashed and written at that place, and moves no
+    /// more. An `Err` changes nothing that is seen.
     pub fn extend<P: HashPlace>(&mut self, place: &P, piece: &[u8]) -> Result<(), AllocError>
         ensures ok { OnOk result (self.new ≡ self.old ++ piece.now) }
         ensures err { OnErr result (self.new ≡ self.old) }
@@ -455,8 +455,8 @@ impl BodyBuilder {
         }
     }
 
-    /// Has the hash and the file take in the parts that they lack, unless a thread is at work: what is lacking then is for
-    /// the next thread. Nothing that is seen changes.
+    /// Has the hash and the file take in the parts that they lack, unless a thread is at work: what is lacking then is
+    /// for the next thread. Nothing that is seen changes.
     fn catch_up<P: HashPlace>(&mut self, place: &P)
         ensures { self.new ≡ self.old }
     {

@@ -7,8 +7,8 @@ use crate::part::Part;
 use crate::spool::{SpoolFile, SyncedFile};
 use std::io;
 
-/// A file, and how many parts of a body it has. Each call is given these parts, of which it has a prefix before the call
-/// and after it. It is removed as it goes.
+/// A file, and how many parts of a body it has. Each call is given these parts, of which it has a prefix before the
+/// call and after it. It is removed as it goes.
 #[derive(Drop)]
 pub struct PrefixFile {
     /// An `Err` says why it could not be written.
@@ -60,8 +60,8 @@ fn write_behind(file: io::Result<SpoolFile>, parts: &[Part]) -> io::Result<Spool
     }
 }
 
-/// Puts parts behind what a file has, and each on the disk before the next, so that no long sync holds up those of other
-/// files.
+/// Puts parts behind what a file has, and each on the disk before the next, so that no long sync holds up those of
+/// other files.
 fn write_parts(file: SpoolFile, parts: &[Part]) -> io::Result<SpoolFile>
     ensures { IfOk result (λ written. written ≡ file ++ concat parts.now) }
 {

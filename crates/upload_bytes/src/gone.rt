@@ -7,8 +7,8 @@ use std::alloc::AllocError;
 use std::marker::Model;
 use std::snapshot::Snapshot;
 
-/// The bytes of a body that were let go as they came, since there was no room for them. At run time it knows how many they
-/// were, and nothing else; contracts see them.
+/// The bytes of a body that were let go as they came, since there was no room for them. At run time it knows how many
+/// they were, and nothing else; contracts see them.
 #[derive(Drop)]
 pub struct Gone {
     /// What had come before they were let go.

@@ -118,8 +118,8 @@ impl Received {
     }
 
     /// What was received, with its hash by an algorithm, for who hashes a last body behind it (`Body::hashed_behind`).
-    /// None if there is no memory for it. A thread that hashes for that is waited for, if the place has threads. Nothing
-    /// that is seen changes.
+    /// None if there is no memory for it. A thread that hashes for that is waited for, if the place has threads.
+    /// Nothing that is seen changes.
     pub fn front<P: HashPlace>(
         &mut self,
         place: &P,
@@ -200,7 +200,8 @@ impl Received {
         }
     }
 
-    /// Its bytes, in the parts that it has, which are shared and not copied. The last segment, which is small, is a copy.
+    /// Its bytes, in the parts that it has, which are shared and not copied. The last segment, which is small, is a
+    /// copy.
     pub fn share(&self, alloc: Global) -> Result<BlobBytes, AllocError>
         ensures { IfOk result (λ bytes. bytes ≡ self.now) }
     {
@@ -220,7 +221,8 @@ impl Received {
         shares.add(self.segments.settled());
     }
 
-    /// Lets the bytes go at a place: what is left has their length and their hashes, which take in here what they lack. An
+    /// Lets the bytes go at a place: what is left has their length and their hashes, which take in here what they
+    /// lack. An
     /// `Err` gives the bytes back: a thread is at work for one of the hashes.
     pub fn let_go<P: HashPlace>(self, place: &P, alloc: Global) -> Result<Digested, Received>
         ensures ok { IfOk result (λ left. left ≡ self) }

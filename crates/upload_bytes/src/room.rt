@@ -30,8 +30,8 @@ impl Room {
         }
     }
 
-    /// The same room, for one more to be granted of it. It takes no memory. An `Err` comes only if there are more owners
-    /// than can be counted.
+    /// The same room, for one more to be granted of it. It takes no memory. An `Err` comes only if there are more
+    /// owners than can be counted.
     pub fn share(&self) -> Result<Room, AllocError> {
         let shared = Arc::try_clone(&self.shared)?;
         Ok(Room { shared })
@@ -62,8 +62,8 @@ impl Room {
         })
     }
 
-    /// Grants so many bytes whether or not as many are left: to who is to give back more. An `Err` comes only if there are
-    /// more owners of the room than can be counted.
+    /// Grants so many bytes whether or not as many are left: to who is to give back more. An `Err` comes only if there
+    /// are more owners of the room than can be counted.
     pub fn grant_over(&self, bytes: u64) -> Result<Grant, AllocError>
         ensures { IfOk result (λ grant. grant ≡ record { limited = true; bytes = bytes }) }
     {
@@ -95,8 +95,8 @@ impl Room {
     }
 }
 
-/// The right to hold so many bytes of a room, which goes back there with its owner, or to hold any number where there is
-/// no limit. It can't be copied.
+/// The right to hold so many bytes of a room, which goes back there with its owner, or to hold any number where there
+/// is no limit. It can't be copied.
 pub struct Grant {
     room: Option<Room>,
     bytes: u64,
@@ -138,8 +138,8 @@ impl Grant {
         self.room.is_some()
     }
 
-    /// Has it cover so many bytes, or more if it does already. An `Err` says that there is no room for them, and changes
-    /// nothing.
+    /// Has it cover so many bytes, or more if it does already. An `Err` says that there is no room for them, and
+    /// changes nothing.
     pub fn cover(&mut self, bytes: u64) -> Result<(), AllocError>
         ensures ok { OnOk result (Covers self.new bytes) }
         ensures least { OnOk result (self.old.bytes ≤ self.new.bytes) }

@@ -5,8 +5,8 @@ use std::alloc::Global;
 /// The fewest bytes that are worth a thread to let them go: they take about a millisecond.
 const WORTH_LETTING_GO: u64 = 16_777_216;
 
-/// One more owner of parts that others may let go. If they do, the bytes stay until these go too, which may be in another
-/// thread (`HashPlace::let_go`). Nobody reads them.
+/// One more owner of parts that others may let go. If they do, the bytes stay until these go too, which may be in
+/// another thread (`HashPlace::let_go`). Nobody reads them.
 #[derive(Drop)]
 pub struct Shares {
     parts: Vec<Part>,
@@ -20,8 +20,8 @@ impl Shares {
         }
     }
 
-    /// Takes a share of each of these parts, as far as there is memory: of the others there is none, and they go where they
-    /// are let go.
+    /// Takes a share of each of these parts, as far as there is memory: of the others there is none, and they go where
+    /// they are let go.
     pub fn add(&mut self, parts: &[Part]) {
         if self.parts.reserve(parts.len()).is_err() {
             return;

@@ -50,8 +50,8 @@ pub struct SpoolFile {
     place: Place,
 }
 
-/// A file of a spool, all of whose bytes are on the disk: every crash leaves just these, once it has a name that a crash
-/// leaves.
+/// A file of a spool, all of whose bytes are on the disk: every crash leaves just these, once it has a name that a
+/// crash leaves.
 #[derive(Drop)]
 pub struct SyncedFile {
     file: SpoolFile,

@@ -9,7 +9,8 @@ const AT_WORK: u64 = 0;
 /// The thread has nothing left to do.
 const OVER: u64 = 1;
 
-/// The end of a thread. Any thread may wait for it, and so may several. That the thread ended says nothing of what it did.
+/// The end of a thread. Any thread may wait for it, and so may several. That the thread ended says nothing of what it
+/// did.
 #[derive(Drop)]
 pub struct ThreadEnd {
     state: Arc<AtomicU64, Global>,

@@ -23,8 +23,8 @@ pub enum Content {
     Gone(Digested),
 }
 
-/// What an upload received, seen as its bytes. They may be let go for others (`give_way`): what needs them finds no memory
-/// from then on, and what only tells of them goes on.
+/// What an upload received, seen as its bytes. They may be let go for others (`give_way`): what needs them finds no
+/// memory from then on, and what only tells of them goes on.
 #[derive(Drop)]
 pub struct Upload {
     content: Content,
@@ -73,8 +73,8 @@ impl Upload {
         }
     }
 
-    /// Takes a body in behind the others (`Received::append`). An `Err` changes nothing; it also says that the bytes were
-    /// let go.
+    /// Takes a body in behind the others (`Received::append`). An `Err` changes nothing; it also says that the bytes
+    /// were let go.
     pub fn append(&mut self, body: Body) -> Result<(), AllocError>
         requires { length self.old + length body < 2 ^ 64 }
         ensures ok { OnOk result (self.new ≡ self.old ++ body) }
@@ -165,8 +165,8 @@ impl Upload {
         };
     }
 
-    /// The bytes with their hash by an algorithm (`Received::front`). None also says that they were let go. Nothing that
-    /// is seen changes.
+    /// The bytes with their hash by an algorithm (`Received::front`). None also says that they were let go. Nothing
+    /// that is seen changes.
     pub fn front<P: HashPlace>(
         &mut self,
         place: &P,
@@ -182,8 +182,8 @@ impl Upload {
         }
     }
 
-    /// Whether the bytes and a last body have a digest, by the algorithm of that digest (`Received::has_digest`). Nothing
-    /// that is seen changes.
+    /// Whether the bytes and a last body have a digest, by the algorithm of that digest (`Received::has_digest`).
+    /// Nothing that is seen changes.
     pub fn has_digest<P: HashPlace>(&mut self, place: &P, digest: &BlobDigest, body: &Body) -> bool
         ensures is { IsTrue result ↔ HasDigest (self.old ++ body.now) digest.now }
         ensures same { self.new ≡ self.old }

@@ -375,8 +375,8 @@ fn by_time(
     Ok((groups, last))
 }
 
-/// Writes a service, as it was surveyed, into a new journal, whose blobs are in these files. The moment is that to go on
-/// at.
+/// Writes a service, as it was surveyed, into a new journal, whose blobs are in these files. The moment is that to go
+/// on at.
 pub fn write<N: Disk + Drop>(
     alloc: Global,
     service: &Service,

@@ -266,8 +266,8 @@ fn check<N: Disk + Drop, S: Shelf + Drop>(
     }
 }
 
-/// Writes a service, as it was surveyed, into a new journal, and puts bytes on the shelf of the old store where they don't
-/// find room in a record.
+/// Writes a service, as it was surveyed, into a new journal, and puts bytes on the shelf of the old store where they
+/// don't find room in a record.
 fn renew<D: Disk, N: Disk + Drop, S: Shelf>(
     alloc: Global,
     store: &mut Store<D, S>,
@@ -356,9 +356,9 @@ fn renewed<D: Disk + Drop, N: Disk + Drop, S: Shelf + Drop>(
 }
 
 /// Writes a new journal that stands for the same service as an old one, but for uploads that are idle and for what is
-/// left out, and sees that it does: both are run, and what they come to is compared. The new journal is on the disk, with
-/// all bodies that it names: every crash leaves it. So it is of the old one, which is as it was, and of its bodies. Nothing
-/// is removed. The new journal begins with `line`, by which it is opened once more before it is run.
+/// left out, and sees that it does: both are run, and what they come to is compared. The new journal is on the disk,
+/// with all bodies that it names: every crash leaves it. So it is of the old one, which is as it was, and of its
+/// bodies. Nothing is removed. The new journal begins with `line`, by which it is opened once more before it is run.
 ///
 /// Without a `Leaving` nothing is left out. A blob goes with the last repository that had it.
 ///

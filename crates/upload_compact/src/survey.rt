@@ -323,8 +323,8 @@ impl Machine for Survey {
     }
 }
 
-/// Surveys what the records of a journal leave, of a service with these limits. Of what is no entry nothing is taken in.
-/// The journal is recovered for that, as `Journal::recover` does.
+/// Surveys what the records of a journal leave, of a service with these limits. Of what is no entry nothing is taken
+/// in. The journal is recovered for that, as `Journal::recover` does.
 pub fn survey_of<D: Disk>(
     alloc: Global,
     journal: &mut Journal<D>,

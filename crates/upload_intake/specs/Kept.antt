@@ -201,9 +201,9 @@ pub data Sends (old new : Outlet) : Type 0 where
   Closed : new.is_open ≡ false → new.view ≡ old.view → Sends old new
   Still : new ≡ old → Sends old new
 
--- One request of a seat, with what came of it. An answer comes only if no call ended Gone; it adds the job and the answer.
--- A request that comes back adds nothing: an earlier call ended Gone, or the line handed it back. None says that no answer
--- came, and adds the job alone. After both the seat is gone.
+-- One request of a seat, with what came of it. An answer comes only if no call ended Gone; it adds the job and the
+-- answer. A request that comes back adds nothing: an earlier call ended Gone, or the line handed it back. None says
+-- that no answer came, and adds the job alone. After both the seat is gone.
 abbrev pub Exchanges : SeatState → Request → List ℕ → Result Answer (Option Request) → SeatState → Type 0
 Exchanges old request secret (Ok answer) new =
     (old.gone ≡ false)

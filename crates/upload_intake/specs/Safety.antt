@@ -44,8 +44,8 @@ pub record Leads (start : State) (kept : List Exchange) (now : ℕ) (service : S
   -- nothing else is kept
   pub only : changed kept ≡ kept
 
--- An answer may be heard: it stands in a run from that service, of which the headline holds, what changed in this run is
--- just what is kept, and none of its moments is after what is promised.
+-- An answer may be heard: it stands in a run from that service, of which the headline holds, what changed in this run
+-- is just what is kept, and none of its moments is after what is promised.
 pub record MayBeHeard (start : State) (kept : List Exchange) (upto : ℕ) (answer : Answer) : Type 0 where
   pub front : List Exchange
   pub x : Exchange
@@ -64,8 +64,8 @@ now_of keeper = last_moment keeper.since (exchanges_of keeper.log)
 abbrev pub LeadsTo : State → List Exchange → KeeperState → Type 0
 LeadsTo start kept keeper = Leads start kept (now_of keeper) keeper.service
 
--- The same, and the exchanges before the keeper's and then those of its log are a run, of which what changed is kept. Its
--- moment is not after this one.
+-- The same, and the exchanges before the keeper's and then those of its log are a run, of which what changed is kept.
+-- Its moment is not after this one.
 pub record Follows (start : State) (kept : List Exchange) (upto : ℕ) (keeper : KeeperState) : Type 0 where
   pub leads : LeadsTo start kept keeper
   pub by : now_of keeper ≤ upto

@@ -434,8 +434,8 @@ fn is_u64(number: u64)
     ensures { number < 2 ^ 64 }
 {}
 
-// Serves a request, which is kept if it changed something. If little room is left, or it found none, idle uploads give way
-// to others.
+// Serves a request, which is kept if it changed something. If little room is left, or it found none, idle uploads give
+// way to others.
 fn serve<R: Threads, K: Keeping>(
     rt: &R,
     service: &mut Service,
@@ -502,8 +502,8 @@ fn serve_held<R: Threads, K: Keeping>(
     answer
 }
 
-// Answers a chunk whose bytes were let go. It changes nothing, so of it only the moment is noted, as of what asks for the
-// base.
+// Answers a chunk whose bytes were let go. It changes nothing, so of it only the moment is noted, as of what asks for
+// the base.
 fn turn_away<K: Keeping>(
     service: &Service,
     keeping: &mut K,

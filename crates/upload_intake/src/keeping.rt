@@ -13,8 +13,8 @@ use upload_service::{Answer, Ask, Service};
 pub struct NotKept;
 
 /// Keeps each request that changed the service, with its answer, before that answer is heard. A keeper adds what it
-/// served, and then has all of it kept at once: between two calls of `keep` it adds at most one of each seat, since these
-/// wait for their answers.
+/// served, and then has all of it kept at once: between two calls of `keep` it adds at most one of each seat, since
+/// these wait for their answers.
 ///
 /// It promises moments too. Each request is noted, also one that changes nothing, and it is answered only at a moment
 /// that is promised: whoever goes on from what is kept begins at none before it.
@@ -70,8 +70,9 @@ pub trait Keeping {
         ensures last { last self.new ≡ last self.old }
         ensures upto { upto self.new ≡ upto self.old };
 
-    /// Waits a moment for more that is to be kept, if what waits is worth it: all that is added before the next `keep` is
-    /// kept by it at once. Says whether it waited. A keeper calls it while somebody whom it answered last may ask soon.
+    /// Waits a moment for more that is to be kept, if what waits is worth it: all that is added before the next `keep`
+    /// is kept by it at once. Says whether it waited. A keeper calls it while somebody whom it answered last may ask
+    /// soon.
     fn linger(&mut self) -> bool
         ensures start { start self.new ≡ start self.old }
         ensures kept { kept self.new ≡ kept self.old }

@@ -48,8 +48,8 @@ pub trait Gate {
     fn before_ask(&mut self, turn: u64, ask: &Ask)
         ensures { watches self.old turn (Asking ask.now) self.new };
 
-    /// The same of a chunk whose bytes were let go. An `Err` says that it isn't to be asked, and nothing is told then: so
-    /// says a gate that has no such call of its own.
+    /// The same of a chunk whose bytes were let go. An `Err` says that it isn't to be asked, and nothing is told then:
+    /// so says a gate that has no such call of its own.
     fn before_gone(&mut self, turn: u64, chunk: &GoneChunk) -> Result<(), NotAsked>
         ensures told { OnOk result (watches self.old turn (Asking (chunk_ask chunk.now)) self.new) }
         ensures same { OnErr result (self.new ≡ self.old) }

@@ -259,10 +259,10 @@ where
     ends
 }
 
-/// As `serve_workers`, and what changed the service is kept before its answer is heard, and the moment of each answer is
-/// promised: also of a pool that never ends. What kept it is handed back with all that it kept before, and then each
-/// exchange that changed something, in the order in which they were served. No exchange is at a moment before the given
-/// one.
+/// As `serve_workers`, and what changed the service is kept before its answer is heard, and the moment of each answer
+/// is promised: also of a pool that never ends. What kept it is handed back with all that it kept before, and then
+/// each exchange that changed something, in the order in which they were served. No exchange is at a moment before the
+/// given one.
 ///
 /// `Serve` comes as the faults of `serve_workers` do. `NotKept` comes only if `keep` failed, once all workers have
 /// ended. They may wait for a connection: the first that asks something ends `DeskGone`, and its worker takes no more.

@@ -276,7 +276,8 @@ impl Seat {
         }
     }
 
-    // Wishes something, and hears what comes of it: nothing, if the keeper goes meanwhile. Nothing that is seen changes.
+    // Wishes something, and hears what comes of it: nothing, if the keeper goes meanwhile. Nothing that is seen
+    // changes.
     fn wish<R: Wait>(&mut self, rt: &R, wish: Wish) -> Told
         ensures { self.new ≡ self.old }
     {

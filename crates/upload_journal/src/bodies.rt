@@ -51,8 +51,8 @@ pub trait Bodies {
         None
     }
 
-    /// The bytes of several files, of which this number's is the first, if they were read already, with their hash: a guess,
-    /// which whoever takes it compares with what he reads. Who reads nothing ahead has none.
+    /// The bytes of several files, of which this number's is the first, if they were read already, with their hash: a
+    /// guess, which whoever takes it compares with what he reads. Who reads nothing ahead has none.
     fn joined(&mut self, first: u64) -> Option<Body>
         ensures same { (n : ℕ) (bytes : List ℕ) → stands self.old n bytes
             → stands self.new n bytes }

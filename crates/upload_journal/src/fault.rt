@@ -25,8 +25,8 @@ pub enum EntryFault {
     BadAnswer,
     /// Bytes stand behind the last field.
     Trailing,
-    /// The checksum isn't that of the bytes before it: some of them have changed. This is seen before any other fault of
-    /// a text that has a checksum.
+    /// The checksum isn't that of the bytes before it: some of them have changed. This is seen before any other fault
+    /// of a text that has a checksum.
     BadChecksum,
 }
 

@@ -91,8 +91,8 @@ module _ {D S H F : Type 0} {g : Ghosts D} {s : shelves.Ghosts S F} {f : Ghosts 
     -- no crash takes a body that its journal names
     pub whole : IsAtRest store → stores.IsWhole (store_of k)
 
-  -- Over a store of which records may be lost: the service and the moment are those that its others come to, and what is
-  -- lost is said. If nothing is, it is as over one that was recovered.
+  -- Over a store of which records may be lost: the service and the moment are those that its others come to, and what
+  -- is lost is said. If nothing is, it is as over one that was recovered.
   pub record BeginsWithout (store : Store D S F g s f) (k : StoreKeeping D S H F g s f) (service : State) (since : ℕ)
       (losses : Losses) : Type 0 where
     pub none : kept_of k ≡ []

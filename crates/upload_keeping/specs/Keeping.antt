@@ -49,8 +49,8 @@ Promises upto next old new =
     ((next ≡ upto) × (new ≡ old)) ⊎ ((next < 2 ^ 64) × (new ≡ old ++ entry_text (MomentsUpTo next) ∷ []))
 
 module _ {D S F : Type 0} {g : Ghosts D} {s : shelves.Ghosts S F} {f : Ghosts F} where
-  -- These are the file of a journal and the files of bodies: all records that the store had as it was opened, with their
-  -- bodies, and behind them the entries of these exchanges.
+  -- These are the file of a journal and the files of bodies: all records that the store had as it was opened, with
+  -- their bodies, and behind them the entries of these exchanges.
   pub record Leaves (opened : Store D S F g s f) (since : ℕ) (exchanges : List Exchange) (upto : ℕ) (file : List ℕ)
       (files : ℕ → Option (List ℕ)) : Type 0 where
     pub holds : Holds (stands_in files) (texts_of (kept_of opened)) since exchanges upto (texts_of (stored file))

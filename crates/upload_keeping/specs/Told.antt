@@ -1,5 +1,5 @@
--- WHAT A RESTART HAS OF WHAT WAS TOLD: all of it, whatever a crash leaves, if no record was lost as the keeping began; and
--- that there is such a restart.
+-- WHAT A RESTART HAS OF WHAT WAS TOLD: all of it, whatever a crash leaves, if no record was lost as the keeping began;
+-- and that there is such a restart.
 use Rattle.std.specs.Prelude.{◌≡◌, ℕ, ◌≤◌, List, [], ◌∷◌, ◌++◌, map, Option, IsTrue}
 use Rattle.sqlite_disk.specs.declared.Disk.{Ghosts}
 use Rattle.bodies.specs.declared.shelf.Shelf as shelves
@@ -21,8 +21,8 @@ use Rattle.upload_keeping.specs.declared.books.Books.{Books}
 abbrev pub Recovers : Limits → List ℕ → (ℕ → Option (List ℕ)) → Point → Type 0
 Recovers limits file files point = IsReplayOf (stored file) files (start_of (empty_state limits 0)) point
 
--- The service that was recovered has an answer that was heard when these exchanges were kept: it is that service, behind
--- them and what was kept since. It goes on at a moment that is not before any that was promised.
+-- The service that was recovered has an answer that was heard when these exchanges were kept: it is that service,
+-- behind them and what was kept since. It goes on at a moment that is not before any that was promised.
 pub record HasTold (start : State) (kept since : List Exchange) (heard upto : ℕ) (answer : Answer) (point : Point)
     : Type 0 where
   pub later : List Exchange
@@ -31,8 +31,8 @@ pub record HasTold (start : State) (kept since : List Exchange) (heard upto : �
   pub moment : upto ≤ moment_of point
 
 module _ {D S F : Type 0} {g : Ghosts D} {s : shelves.Ghosts S F} {f : Ghosts F} where
-  -- Whatever was heard before, when the first of what is kept was kept: each crash leaves a journal and bodies from which
-  -- each recovery has it. What was kept since is there too, and of what waits the first, or none.
+  -- Whatever was heard before, when the first of what is kept was kept: each crash leaves a journal and bodies from
+  -- which each recovery has it. What was kept since is there too, and of what waits the first, or none.
   abbrev pub KeepsWhatIsTold : Books D S F g s f → Type 0
   KeepsWhatIsTold b =
       IsTrue (is_whole_in b) → (kept more : List Exchange) (heard : ℕ) (answer : Answer) → MayBeHeard (start_in b) kept heard answer
@@ -53,8 +53,8 @@ module _ {D S F : Type 0} {g : Ghosts D} {s : shelves.Ghosts S F} {f : Ghosts F}
       → (more : List Exchange) (service : State) → NeverBefore (moment_of point) more → Run point.state more service
       → Headline (start_in b) (may.front ++ may.x ∷ may.rest ++ more) service
 
-  -- Each crash leaves what a recovery goes over to its end, if what was kept and what waits is a run, at no moment before
-  -- that at which the keeping began.
+  -- Each crash leaves what a recovery goes over to its end, if what was kept and what waits is a run, at no moment
+  -- before that at which the keeping began.
   abbrev pub CanBeRunAgain : Books D S F g s f → Type 0
   CanBeRunAgain b =
       IsTrue (is_whole_in b) → (service : State) → Run (start_in b) (kept_in b ++ waiting_in b) service

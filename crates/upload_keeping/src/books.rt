@@ -52,8 +52,8 @@ pub(crate) struct Books<D: Disk, S: Shelf> {
     pub(crate) waiting: History<Recorded>,
 }
 
-/// So much room is left in the journal beside what changes: for promises of moments, each of which takes 8 KiB and lasts
-/// a minute, so that a full disk still lets a server answer what changes nothing.
+/// So much room is left in the journal beside what changes: for promises of moments, each of which takes 8 KiB and
+/// lasts a minute, so that a full disk still lets a server answer what changes nothing.
 const FOR_PROMISES: usize = 4_194_304;
 
 /// The journal's room grows by so much at a time.
@@ -158,8 +158,8 @@ impl<D: Disk, S: Shelf> Books<D, S> {
         self.fault = Some(fault);
     }
 
-    /// Whether the body of a request is written, or can be yet. If it could not be as it came, why is noted, unless that is
-    /// a want of room.
+    /// Whether the body of a request is written, or can be yet. If it could not be as it came, why is noted, unless
+    /// that is a want of room.
     fn may_be_written(&mut self, ask: &Ask) -> bool
         ensures kept { AreKept self.old → AreKept self.new }
         ensures start { start_in self.new ≡ start_in self.old }
@@ -261,7 +261,8 @@ impl<D: Disk, S: Shelf> Books<D, S> {
         self.fault = put.err();
     }
 
-    /// Lets go of what was made ready for a request that changed nothing: the file of its body is removed, if it can be.
+    /// Lets go of what was made ready for a request that changed nothing: the file of its body is removed, if it can
+    /// be.
     pub(crate) fn let_go(&mut self, noted: Noted<D, S>)
         ensures kept { AreKept self.old → IsReady self.old noted → AreKept self.new }
         ensures start { start_in self.new ≡ start_in self.old }

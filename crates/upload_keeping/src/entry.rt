@@ -180,8 +180,8 @@ pub(crate) fn draft_of<D: Disk, S: Shelf>(
     }
 }
 
-/// Puts the entry of a request that changed something into a batch, with its answer. `NoChange` comes for an answer that
-/// no entry stands for, since nothing changed. After an error the batch may have the entry or not.
+/// Puts the entry of a request that changed something into a batch, with its answer. `NoChange` comes for an answer
+/// that no entry stands for, since nothing changed. After an error the batch may have the entry or not.
 pub(crate) fn put_entry<D: Disk, S: Shelf>(
     store: &Store<D, S>,
     batch: &mut Batch,

@@ -15,8 +15,8 @@ pub trait KeepingHost {
     /// The batch is kept.
     fn kept(&mut self);
 
-    /// Waits, so that more may come that is kept with what is due, if that is short beside what it takes to keep a batch.
-    /// Says whether it did.
+    /// Waits, so that more may come that is kept with what is due, if that is short beside what it takes to keep a
+    /// batch. Says whether it did.
     fn pause(&mut self) -> bool;
 
     /// Something was not kept, for this reason. Nobody hears an answer of that round or of a later one.

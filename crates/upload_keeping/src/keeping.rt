@@ -18,8 +18,8 @@ use upload_store::Store;
 /// a large body in a file of its own, and the moments are promised a minute ahead.
 ///
 /// Before a request that may change something is served, there is room for it on the disk, and its large body is there.
-/// If there is no room, on the disk or in memory, `note` says so, and the next request may find some. What can't be kept
-/// for another reason is told to its host, and nothing is kept from then on.
+/// If there is no room, on the disk or in memory, `note` says so, and the next request may find some. What can't be
+/// kept for another reason is told to its host, and nothing is kept from then on.
 #[derive(Drop)]
 pub struct StoreKeeping<D: Disk, S: Shelf, H> {
     pub(crate) books: Books<D, S>,

@@ -35,8 +35,8 @@ impl Note {
     }
 }
 
-/// Whether a request may change something, by what it is and by where its session stands: else nothing is made ready for
-/// it. It takes no memory, and hashes nothing.
+/// Whether a request may change something, by what it is and by where its session stands: else nothing is made ready
+/// for it. It takes no memory, and hashes nothing.
 pub(crate) fn may_change(service: &Service, ask: &Ask) -> bool {
     match ask {
         Ask::Opening { .. } | Ask::Mount { .. } => true,

@@ -30,8 +30,8 @@ pub struct Moments {
     pub upto: u64,
 }
 
-/// Puts a promise into a batch if the last moment isn't promised yet: of the moments up to a minute behind it. Says up to
-/// which one moments are promised then.
+/// Puts a promise into a batch if the last moment isn't promised yet: of the moments up to a minute behind it. Says up
+/// to which one moments are promised then.
 fn promise(batch: &mut Batch, moments: Moments) -> Result<u64, AllocError>
     ensures reaches { IfOk result (λ next. (moments.last ≤ next) × (moments.upto ≤ next)) }
     ensures ahead { IfOk result (λ next. next ≤ max moments.upto (moments.last + 60)) }

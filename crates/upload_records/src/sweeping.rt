@@ -63,11 +63,11 @@ fn remove_others<S: Shelf>(alloc: Global, shelf: &mut S, named: &Named) -> Resul
 }
 
 /// Removes the files of a shelf that no record of a journal names, and says how many. A server that ends while it
-/// writes a body leaves such a file. The journal is read as it stands, and nothing is written to it. A crash may bring a
-/// file back, and the next sweep finds it again.
+/// writes a body leaves such a file. The journal is read as it stands, and nothing is written to it. A crash may bring
+/// a file back, and the next sweep finds it again.
 ///
-/// All files stay if what a file is for may be in doubt: a record is no entry, the journal doesn't end as a sound one does,
-/// or a batch marks that others are lost.
+/// All files stay if what a file is for may be in doubt: a record is no entry, the journal doesn't end as a sound one
+/// does, or a batch marks that others are lost.
 ///
 /// An error is one of `Journal::look`, or says that a file wasn't listed or removed: some may be removed then.
 #[tactic(auto, using(crate::proofs::Runs::noted, crate::proofs::Sweeps::all_named, crate::proofs::Sweeps::all_same))]

@@ -5,8 +5,8 @@ use std::alloc::AllocError;
 use std::marker::Model;
 use upload_bytes::{Body, Grant, Room};
 
-/// What a change is granted beside what it takes, so that who is to send bytes isn't told to begin where there is no room
-/// for any.
+/// What a change is granted beside what it takes, so that who is to send bytes isn't told to begin where there is no
+/// room for any.
 const SPARE: u64 = 65_536;
 
 /// The room that changes are granted of, if there is a limit. It is seen as whether nothing may change.
@@ -32,7 +32,8 @@ impl Budget {
         Budget { room, shut: false }
     }
 
-    /// The room, for one more to share, if there is one. An `Err` comes only if there are more owners than can be counted.
+    /// The room, for one more to share, if there is one. An `Err` comes only if there are more owners than can be
+    /// counted.
     pub fn room(&self) -> Result<Option<Room>, AllocError> {
         match &self.room {
             Some(room) => Ok(Some(room.share()?)),
@@ -102,8 +103,8 @@ impl Budget {
         Ok(grant)
     }
 
-    /// Grants what a body takes, if it isn't granted already. An `Err` says that as much isn't left, or that nothing may
-    /// change.
+    /// Grants what a body takes, if it isn't granted already. An `Err` says that as much isn't left, or that nothing
+    /// may change.
     pub fn admit(&self, body: Body) -> Result<Body, AllocError>
         ensures open { OnOk result (IsFalse self.now) }
         ensures same { IfOk result (λ admitted. admitted ≡ body) }

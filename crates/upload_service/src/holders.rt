@@ -139,8 +139,8 @@ impl Holders {
         Ok(())
     }
 
-    /// Takes a repository from among them. Says whether it was the only one: what is left then is to be let go. It takes
-    /// no memory.
+    /// Takes a repository from among them. Says whether it was the only one: what is left then is to be let go. It
+    /// takes no memory.
     pub fn remove(&mut self, name: &Arc<RepoName, Global>) -> bool
         ensures only { result ≡ is_alone (arc_value name.now) self.old }
         ensures removed { result ≡ false → (q : List ℕ) → list_any (same q) self.new

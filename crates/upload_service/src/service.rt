@@ -61,8 +61,8 @@ impl Service {
     }
 
     /// A new service that holds no more than this room grants it, shared with others: the bytes of bodies that aren't
-    /// granted already, and what its tables take. What finds no room there is answered NoMemory, as want of memory is. It
-    /// takes no memory.
+    /// granted already, and what its tables take. What finds no room there is answered NoMemory, as want of memory is.
+    /// It takes no memory.
     pub fn within(alloc: Global, limits: Limits, room: Room) -> Service
         requires { AreLawful limits }
         ensures { result ≡ empty_state limits 0 }
@@ -89,8 +89,8 @@ impl Service {
         }
     }
 
-    /// The room that it is granted of, for who reads the bodies of its requests to be granted of too; `None` if it has no
-    /// limit. It takes no memory. An `Err` comes only if there are more owners of the room than can be counted.
+    /// The room that it is granted of, for who reads the bodies of its requests to be granted of too; `None` if it has
+    /// no limit. It takes no memory. An `Err` comes only if there are more owners of the room than can be counted.
     pub fn room(&self) -> Result<Option<Room>, AllocError> {
         self.tables.budget.room()
     }
@@ -117,10 +117,10 @@ impl Service {
         self.step_at(&InPlace, ask, secret, now)
     }
 
-    /// As `step`, for a caller with threads, in one of which many bytes go that nobody owns any more: those of a refused
-    /// body, of a blob whose place another one takes, and of idle uploads that leave. A close that isn't refused before
-    /// waits for the thread that hashes for its session by the algorithm of its digest, and so does everybody else whom
-    /// the caller serves. So the caller waits for it before, while others are served (`catch_up`).
+    /// As `step`, for a caller with threads, in one of which many bytes go that nobody owns any more: those of a
+    /// refused body, of a blob whose place another one takes, and of idle uploads that leave. A close that isn't
+    /// refused before waits for the thread that hashes for its session by the algorithm of its digest, and so does
+    /// everybody else whom the caller serves. So the caller waits for it before, while others are served (`catch_up`).
     pub fn step_joining<R: Threads>(
         &mut self,
         rt: &R,
@@ -139,8 +139,8 @@ impl Service {
         answer
     }
 
-    /// Serves one request as `step` does, and changes nothing: what would be a change is answered NoMemory. So is served
-    /// who could change something while there is no room for what a change is kept in.
+    /// Serves one request as `step` does, and changes nothing: what would be a change is answered NoMemory. So is
+    /// served who could change something while there is no room for what a change is kept in.
     pub fn step_unchanged(&mut self, ask: Ask, secret: [u8; 12], now: u64) -> Answer
         ensures turn { Turn self.old ask secret now result self.new }
         ensures same { self.new ≡ self.old }
@@ -167,7 +167,8 @@ impl Service {
         answer
     }
 
-    /// Answers a chunk whose bytes were let go as they came: by the refusal that `step` would answer it by, or NoMemory if
+    /// Answers a chunk whose bytes were let go as they came: by the refusal that `step` would answer it by, or
+    /// NoMemory if
     /// `step` would take it. Nothing changes, and it takes no memory.
     pub fn turn_away(&self, chunk: GoneChunk, now: u64) -> Answer
         ensures turn { (secret : List ℕ) → Turn self.now (chunk_ask chunk) secret now result self.now }
@@ -203,8 +204,8 @@ impl Service {
     /// enough to hash, so that the caller serves other requests meanwhile; from then on the caller calls
     /// `step_joining` in place of `step`. A session has one such thread at a time for each algorithm. A thread that has
     /// ended is joined by the next `catch_up` or `step_joining`, of whichever session, and keeps no stack from then on.
-    /// While that is at work nothing is done: what is left to do then is for the next one. The thread is given shares of
-    /// the session's bytes and no copy. If there is no memory for it, or none can be made, all is taken in here.
+    /// While that is at work nothing is done: what is left to do then is for the next one. The thread is given shares
+    /// of the session's bytes and no copy. If there is no memory for it, or none can be made, all is taken in here.
     ///
     /// Gives the end of the thread that is at work, so that who is to close the session can wait for it. Behind it
     /// there may be more to take in, if chunks came meanwhile or the thread was at work already, so the caller then
@@ -223,9 +224,9 @@ impl Service {
             .catch_up(place, self.tables.alloc, at, algorithm)
     }
 
-    /// What an open session received, with its hash by an algorithm, for who hashes the body of a close behind it before
-    /// asking for the close (`Body::hashed_behind`). Then the step of that close only compares what the session received
-    /// with this, unless a chunk came meanwhile. None if there is no such session, a thread is at work for it
+    /// What an open session received, with its hash by an algorithm, for who hashes the body of a close behind it
+    /// before asking for the close (`Body::hashed_behind`). Then the step of that close only compares what the session
+    /// received with this, unless a chunk came meanwhile. None if there is no such session, a thread is at work for it
     /// (`catch_up` gives its end), or no memory is left. Nothing that is seen changes.
     pub fn front<P: HashPlace>(
         &mut self,
@@ -250,11 +251,11 @@ impl Service {
         self.tables.budget.is_scarce()
     }
 
-    /// Has the bytes of some sessions go that are idle at this moment, in seconds, so that there is room for others: for
-    /// who sees that little is left (`is_scarce`), or that a request found none. Their hashes take in at a place what they
-    /// lack. If threads do that, the bytes go at the first `catch_up` or `step_joining` behind their end. Nothing that is
-    /// seen changes: such a session is idle at each later moment too. If a moment should fall all the same, it tells its
-    /// offset and refuses as ever, and what would change it is out of memory.
+    /// Has the bytes of some sessions go that are idle at this moment, in seconds, so that there is room for others:
+    /// for who sees that little is left (`is_scarce`), or that a request found none. Their hashes take in at a place
+    /// what they lack. If threads do that, the bytes go at the first `catch_up` or `step_joining` behind their end.
+    /// Nothing that is seen changes: such a session is idle at each later moment too. If a moment should fall all the
+    /// same, it tells its offset and refuses as ever, and what would change it is out of memory.
     pub fn give_way<P: HashPlace>(&mut self, place: &P, now: u64)
         ensures { self.new ≡ self.old }
     {
@@ -374,8 +375,8 @@ impl Service {
         self.tables.stock.get(digest)
     }
 
-    /// Has the sessions leave that are idle at this moment, in seconds, as an opening does in a full table. No request at
-    /// this moment or later finds one of them. It takes no memory.
+    /// Has the sessions leave that are idle at this moment, in seconds, as an opening does in a full table. No request
+    /// at this moment or later finds one of them. It takes no memory.
     pub fn leave_idle(&mut self, now: u64)
         ensures left { self.new ≡ record self.old { sessions = all_awake self.old now } }
         ensures lawful { IsLawful self.new }

@@ -133,7 +133,8 @@ impl Sessions {
         count_awake(&self.open, limits.max_idle, now) >= limits.max_open as usize
     }
 
-    /// Has shares kept of what leaves if one more session is opened: of idle ones, if the table is full with them alone.
+    /// Has shares kept of what leaves if one more session is opened: of idle ones, if the table is full with them
+    /// alone.
     pub fn keep_leaving_in(&self, limits: Limits, now: u64, shares: &mut Shares) {
         if self.open.len() < limits.max_open as usize || self.is_full(limits, now) {
             return;
@@ -238,8 +239,8 @@ impl Sessions {
         let _ = self.started.push_back(Started { at, algorithm, end });
     }
 
-    /// Joins the threads that have ended hashing, if that can be done at this place, so that they keep no stack. The bytes
-    /// go that are to give way. Nobody waits, and nothing that is seen changes.
+    /// Joins the threads that have ended hashing, if that can be done at this place, so that they keep no stack. The
+    /// bytes go that are to give way. Nobody waits, and nothing that is seen changes.
     pub fn take_back<P: HashPlace>(&mut self, place: &P, alloc: Global)
         ensures { self.new ≡ self.old }
     {
@@ -271,8 +272,8 @@ impl Sessions {
         session.received.take_back(place, alloc, algorithm)
     }
 
-    /// Has the bytes of idle sessions go, of some at once, so that there is room for others (`Upload::give_way`). Nothing
-    /// that is seen changes.
+    /// Has the bytes of idle sessions go, of some at once, so that there is room for others (`Upload::give_way`).
+    /// Nothing that is seen changes.
     pub fn give_way<P: HashPlace>(&mut self, place: &P, alloc: Global, max_idle: u64, now: u64)
         ensures { self.new ≡ self.old }
     {
@@ -357,8 +358,8 @@ impl Sessions {
         session.received.has_digest(place, digest, body)
     }
 
-    /// Moves out what an open session received, so that it has received nothing. None says that its bytes were let go, and
-    /// changes nothing.
+    /// Moves out what an open session received, so that it has received nothing. None says that its bytes were let go,
+    /// and changes nothing.
     pub fn take(&mut self, alloc: Global, at: &UploadRef) -> Option<Received>
         requires { IsSome (map.get self.old at.now) }
         ensures taken { IfSome result (λ received. (session : Session)

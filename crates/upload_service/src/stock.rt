@@ -183,8 +183,8 @@ impl Stock {
         }
     }
 
-    /// Whether both have the same blobs, and their repositories the same pairs. An `Err` says that there is no memory to
-    /// compare them.
+    /// Whether both have the same blobs, and their repositories the same pairs. An `Err` says that there is no memory
+    /// to compare them.
     pub fn is_same(&self, other: &Stock) -> Result<bool, AllocError>
         ensures { IfOk result (λ same. IsTrue same → self.now ≡ other.now) }
     {

@@ -54,8 +54,8 @@ impl Tables {
         shares
     }
 
-    /// Shares of the bytes that may go if a request is served: of its body, of the blob whose place its own takes, and of
-    /// idle sessions. Small ones go where it is served.
+    /// Shares of the bytes that may go if a request is served: of its body, of the blob whose place its own takes, and
+    /// of idle sessions. Small ones go where it is served.
     pub fn keep_leaving(&self, ask: &Ask, now: u64) -> Shares {
         let mut shares = self.keep_body(ask);
         match ask {
@@ -88,7 +88,8 @@ impl Tables {
         shares
     }
 
-    /// Has shares kept of the stored blob of a digest if a blob of this size may take its place: only one of its own does.
+    /// Has shares kept of the stored blob of a digest if a blob of this size may take its place: only one of its own
+    /// does.
     fn keep_replaced_in(&self, digest: &BlobDigest, size: u64, shares: &mut Shares) {
         if let Some(blob) = self.stock.get(digest) {
             if blob.len() == size {
@@ -322,8 +323,8 @@ fn commit(tables: &mut Tables, last: Placed, digest: BlobDigest) -> Answer
     Answer::Stored { name, digest }
 }
 
-/// Grants what the table takes for a session that is opened. If the table is full, idle ones leave then, which gives back
-/// more.
+/// Grants what the table takes for a session that is opened. If the table is full, idle ones leave then, which gives
+/// back more.
 fn grant_opening(tables: &Tables, name: &RepoName) -> Result<Grant, AllocError>
     ensures { OnOk result (IsFalse tables.now.budget) }
 {

@@ -78,8 +78,8 @@ module _ {D S F R : Type 0} {g : Ghosts D} {s : shelves.Ghosts S F} {t : shelves
       shelf = shelf_under clean.shelf;
     }
 
-  -- From a store another one was made, of the same records and the same bodies; and from that one over the shelf the new
-  -- one.
+  -- From a store another one was made, of the same records and the same bodies; and from that one over the shelf the
+  -- new one.
   module _ (old was new : Store D S F g s f) (before after : Store D (AheadShelf R S F) F g t f) (first : IsAhead was before) (last : IsAhead new after)
       (same : IsClean was → kept_of was ≡ kept_of old) (shelf_same : shelf_of was ≡ shelf_of old)
       (limits_same : limits_of was ≡ limits_of old) (back : IsClean after → IsClean before) where

@@ -25,8 +25,8 @@ use upload_journal::Replay;
 /// How many bytes bodies may have together that are read ahead, without a limit on what is held.
 const MOST_AHEAD: u64 = 1 << 30;
 
-/// How many bytes bodies may have together that are read ahead, if no more than `memory` may be held: no room counts them,
-/// and an eighth of it is enough.
+/// How many bytes bodies may have together that are read ahead, if no more than `memory` may be held: no room counts
+/// them, and an eighth of it is enough.
 pub fn most_ahead(memory: Option<u64>) -> u64 {
     memory.map_or(MOST_AHEAD, |memory| MOST_AHEAD.min(memory / 8))
 }

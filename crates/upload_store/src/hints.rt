@@ -27,8 +27,8 @@ enum Chunks {
     Elsewhere,
 }
 
-/// Which bodies a replay will ask for, as the entries tell, as far as there was memory to list them. Nothing is promised of
-/// them.
+/// Which bodies a replay will ask for, as the entries tell, as far as there was memory to list them. Nothing is
+/// promised of them.
 #[derive(Drop)]
 pub struct Hints {
     alloc: Global,
@@ -42,8 +42,8 @@ pub struct Hints {
 }
 
 impl Hints {
-    /// Of no entries. The bodies of an upload are read by one thread, and are all there before the first is taken, if they
-    /// have no more bytes than `most`. Those of a longer one are read each by itself.
+    /// Of no entries. The bodies of an upload are read by one thread, and are all there before the first is taken, if
+    /// they have no more bytes than `most`. Those of a longer one are read each by itself.
     pub fn new(alloc: Global, most: u64) -> Hints {
         Hints {
             alloc,

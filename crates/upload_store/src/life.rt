@@ -154,8 +154,8 @@ pub fn live_on<D: Crash, S: CrashShelf>(
         → IsSafe S.Shelf.held S.Shelf.may_leave (shelf_of store.new) n bytes }
     ensures open { OnOk result (IsTrue (is_open store.new)) }
 
-    // Why it gives up: the journal has another first line by now, or almost 2^63 bytes; a call failed, of the disk or of
-    // the shelf; a record can't be run again; or the last number has a body.
+    // Why it gives up: the journal has another first line by now, or almost 2^63 bytes; a call failed, of the disk or
+    // of the shelf; a record can't be run again; or the last number has a body.
     ensures cause { IfErr result (ComesBy (Because Never
         (IsClean store.new
         → BeginsWith (line_of (journal_of store.new)) (D.Disk.seen (disk_of store.new)) → Never)

@@ -248,9 +248,9 @@ impl<D: Disk, S: Shelf> Store<D, S> {
         self.next
     }
 
-    /// Puts a body on the disk, in a file of its own: every crash leaves exactly it, so that an entry may name it. If it
-    /// was written into the spool as it came (`spool`), that file gets the number. The number is used up, also by an error,
-    /// after which a file that was made here is removed if it can be.
+    /// Puts a body on the disk, in a file of its own: every crash leaves exactly it, so that an entry may name it. If
+    /// it was written into the spool as it came (`spool`), that file gets the number. The number is used up, also by
+    /// an error, after which a file that was made here is removed if it can be.
     pub fn put_body(&mut self, body: &Bytes) -> Result<BodyFile, StoreFault>
         ensures written { IfOk result (λ file. (file.number ≡ next_of self.old)
             × (file.len ≡ length body.now)
@@ -417,8 +417,8 @@ impl<D: Disk, S: Shelf> Store<D, S> {
         }
     }
 
-    /// Puts bodies on the disk, which get the numbers from `next_number` on, and then adds a batch of entries, which may
-    /// name them, with the time of day in seconds since 1970.
+    /// Puts bodies on the disk, which get the numbers from `next_number` on, and then adds a batch of entries, which
+    /// may name them, with the time of day in seconds since 1970.
     pub fn keep(&mut self, bodies: &[Bytes], batch: &Batch, time: u64) -> Result<(), StoreFault>
         ensures kept { OnOk result (IsClean self.new → kept_of self.new
             ≡ kept_of self.old ++ kept_at time batch.now ∷ []) }
@@ -536,9 +536,9 @@ impl<D: Disk, S: Shelf> Store<D, S> {
     /// shelf loses what is damaged, and what can't be done without it.
     ///
     /// A record counts if it does what it did, and else it is lost, by a cause at its place. A session gets the number
-    /// that it had, also behind a lost one. No later session gets a number that a lost record names or may have had, and
-    /// no later body that of a file that a record names.
-    /// Nothing is lost of what `recover` could run, unless a call of the shelf fails.
+    /// that it had, also behind a lost one. No later session gets a number that a lost record names or may have had,
+    /// and no later body that of a file that a record names. Nothing is lost of what `recover` could run, unless a
+    /// call of the shelf fails.
     pub fn salvage(&mut self, alloc: Global) -> Result<Salvage, StoreFault>
         ensures ran { IfOk result (λ saved. IsClean self.new
             → IsSalvageOf (kept_of self.old) (S.Shelf.held (shelf_of self.new))

@@ -23,8 +23,8 @@ impl Coming {
         }
     }
 
-    /// Puts a piece behind the bytes, which are hashed at that place if they are held. If there is no memory for it, all
-    /// that came is let go, if that may be; an `Err` says that it may not, or that 2^64 bytes would have come.
+    /// Puts a piece behind the bytes, which are hashed at that place if they are held. If there is no memory for it,
+    /// all that came is let go, if that may be; an `Err` says that it may not, or that 2^64 bytes would have come.
     pub fn extend<P: HashPlace>(
         &mut self,
         place: &P,

@@ -15,8 +15,8 @@ pub trait Desk {
     fn ask(&mut self, ask: Ask) -> Option<Answer>
         ensures { moves self.old ask result self.new };
 
-    /// Answers a chunk whose bytes were let go, since there was no room for them, as `ask` answers one that can't be taken.
-    /// An `Err` says that this desk can't: it wasn't asked. So says one that has no such answer of its own.
+    /// Answers a chunk whose bytes were let go, since there was no room for them, as `ask` answers one that can't be
+    /// taken. An `Err` says that this desk can't: it wasn't asked. So says one that has no such answer of its own.
     fn turn_away(&mut self, chunk: GoneChunk) -> Result<Option<Answer>, NotAsked>
         ensures asked { IfOk result (λ answer. moves self.old (chunk_ask chunk) answer self.new) }
         ensures unasked { IfErr result (λ _. self.new ≡ self.old) }

@@ -48,8 +48,8 @@ impl Model for RequestInput {
 }
 
 impl RequestInput {
-    /// An input of requests with bodies of at most `limits.max_body` bytes, which are granted of a room if one is given.
-    /// It makes its one buffer of 64 KiB, or answers that there is no memory for it.
+    /// An input of requests with bodies of at most `limits.max_body` bytes, which are granted of a room if one is
+    /// given. It makes its one buffer of 64 KiB, or answers that there is no memory for it.
     pub fn new(
         alloc: Global,
         limits: Limits,

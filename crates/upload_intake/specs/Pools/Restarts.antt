@@ -16,8 +16,8 @@ abbrev pub AreRemembered : List Exchange → Type 0
 AreRemembered xs = AllByRecursion (λ (x : Exchange). x.answer ≢ NoMemory) xs
 
 -- A restart that served these exchanges from this service, and came to that one, has an answer that was heard. It was
--- given by the service as the first of these exchanges left it, at a moment that is not after this one. If it tells of a
--- change, the next exchange is that change.
+-- given by the service as the first of these exchanges left it, at a moment that is not after this one. If it tells of
+-- a change, the next exchange is that change.
 pub record HasAnswer (start : State) (served : List Exchange) (service : State) (upto : ℕ) (answer : Answer)
     : Type 0 where
   pub before : List Exchange
