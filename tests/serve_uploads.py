@@ -441,7 +441,7 @@ def closes_at_once_share_a_hash():
 def many_bytes_go_in_a_thread(folder):
     """The bytes of a body that is refused, and of a blob whose place another takes, go in a thread if they are many, so
     that nobody waits for that. Few go where their request is served."""
-    told, content, other = os.path.join(folder, "told"), bytes(20 * MIB), bytes([1]) * (20 * MIB)
+    told, content = os.path.join(folder, "told"), bytes(20 * MIB)
     counted = shims.loaded(folder, "threads", THREADS_TOLD=told)
     with Server(env=counted | {"BLOBD_WORKERS": 1}) as server, server.client() as client:
 
@@ -451,13 +451,13 @@ def many_bytes_go_in_a_thread(folder):
             status = client.ask(*request, **fields).status
             return status, len(shims.told(told)) - before
 
-        place, whole = client.opened("lib/a"), f"{UPLOADS}?digest={sha256(content)}"
         for name, size, threads in (("few", MIB, 0), ("many", len(content), 1)):
-            missed = begun("PATCH", place, content[:size], Content_Range=f"1-{size}")
+            missed = begun("PATCH", client.opened("lib/a"), content[:size], Content_Range=f"1-{size}")
             equal(f"a chunk of {name} bytes that misses its place", missed, (416, threads))
-        equal("a blob", begun("POST", whole, content), (201, 0))
-        equal("the same again, which takes its place", begun("POST", whole, content), (201, 1))
-        equal("other bytes under its digest", begun("POST", whole, other), (400, 1))
+        for name, threads in (("a blob", 0), ("the same again, which takes its place", 1)):
+            place = client.opened("lib/a")
+            equal(f"{name}: its chunk", client.ask("PATCH", place, content).status, 202)
+            equal(name, begun("PUT", f"{place}?digest={sha256(content)}"), (201, threads))
 
 
 if __name__ == "__main__":
