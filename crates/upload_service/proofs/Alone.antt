@@ -1,6 +1,6 @@
 -- Each session's replies are those that it gets alone.
-use Rattle.std.proofs.Common.{◌≡◌, ℕ, List, [], ◌∷◌, Bool, true, false, Option, Some, None, refl, sym, ◌∙◌, ap, subst}
-use Rattle.std.proofs.Common.{◌⊎◌, inl, inr, cond, arith, not}
+use Rattle.std.proofs.Common.{◌≡◌, ℕ, List, [], ◌∷◌, Bool, true, false, Option, refl, sym, ◌∙◌, ap, subst}
+use Rattle.std.proofs.Common.{◌⊎◌, inl, inr, cond, arith, not, rules}
 use Rattle.std.specs.Prelude.{◌||◌, nat_le}
 use Rattle.std.specs.FinMap as map
 use Rattle.upload_names.specs.Reference.{number_of}
@@ -14,7 +14,7 @@ use Rattle.upload_service.specs.Machine.{Turn, IsLawful}
 use Rattle.upload_service.proofs.Claims.{AnsweredAsAlone}
 use Rattle.upload_service.specs.Run.{Exchange, NeverBefore, Run}
 use Rattle.upload_service.specs.Session.{carries, begins, is_part, part}
-use Rattle.upload_service.specs.Alone.{Life, life_of, life_in, alone_answer, alone_after, alone, lacks_memory, told}
+use Rattle.upload_service.specs.Alone.{Life, life_of, alone_answer, alone_after, alone, lacks_memory, told}
 use Rattle.upload_service.proofs.Steps.{outcome_sound}
 use Rattle.upload_service.proofs.Effects.{IsOutcome}
 use Rattle.upload_service.proofs.Turns.{IsNumbered, numbered_after, Fits, fits_by, others_leave, Own, own_by_reference}
@@ -26,24 +26,16 @@ told_other x xs at e = ap (λ b. filter (λ y. not (lacks_memory y.answer)) (con
 
 pub told_none : (x : Exchange) (xs : List Exchange) (at : List ℕ) → lacks_memory x.answer ≡ true
     → told (x ∷ xs) at ≡ told xs at
-told_none x xs at e =
-    elim (is_part at x)
-    as (λ b. filter (λ y. not (lacks_memory y.answer)) (cond b (x ∷ part xs at) (part xs at)) ≡ told xs at) [
-      | true ↦ ap (λ b. cond (not b) (x ∷ told xs at) (told xs at)) e
-      | false ↦ refl
-    ]
+told_none x xs at e = search (rules, arith)
 
 pub told_own : (x : Exchange) (xs : List Exchange) (at : List ℕ) → is_part at x ≡ true → lacks_memory x.answer ≡ false
     → told (x ∷ xs) at ≡ x ∷ told xs at
-told_own x xs at e m =
-    ap (λ b. filter (λ y. not (lacks_memory y.answer)) (cond b (x ∷ part xs at) (part xs at))) e
-    ∙ ap (λ b. cond (not b) (x ∷ told xs at) (told xs at)) m
+told_own x xs at e m = cc
 
 pub limits_turn : (s : State) (ask : Ask) (secret : List ℕ) (now : ℕ) (answer : Answer) (t : State)
     → Turn s ask secret now answer t → t.limits ≡ s.limits
 unfolding Turn
-limits_turn s ask secret now answer t (inl did) =
-    ap (λ q. q.limits) did.1
+limits_turn s ask secret now answer t (inl did) = cc
 limits_turn s ask secret now answer t (inr lacked) = ap (λ q. q.limits) lacked.2
 
 -- Where this holds of the run after an exchange, it holds of the run with it.
@@ -55,27 +47,16 @@ SoFar limits at life xs =
 one_more : (limits : Limits) (at : List ℕ) (life : Life) (x : Exchange) (xs : List Exchange)
     → told (x ∷ xs) at ≡ x ∷ told xs at → x.answer ≡ alone_answer limits at life x.ask x.now
     → SoFar limits at (alone_after limits life x.ask x.now) xs → SoFar limits at life (x ∷ xs)
-one_more limits at life x xs e a h =
-    subst (λ ys. list_map (λ y. y.answer) ys
-    ≡ alone limits at life (list_map (λ y. (y.ask, y.now)) ys)) (sym e)
-    (λ i. a i ∷ h i)
+one_more limits at life x xs e a h = cc
 
 none_more : (limits : Limits) (at : List ℕ) (life : Life) (x : Exchange) (xs : List Exchange)
     → told (x ∷ xs) at ≡ told xs at → SoFar limits at life xs → SoFar limits at life (x ∷ xs)
-none_more limits at life x xs e h =
-    subst (λ ys. list_map (λ y. y.answer) ys
-    ≡ alone limits at life (list_map (λ y. (y.ask, y.now)) ys)) (sym e) h
+none_more limits at life x xs e h = cc
 
 -- one of two: the exchange is the session's own by its request or by its answer, or it is another's
 own_or_other : (at : List ℕ) (x : Exchange) → (carries at x.ask ≡ true)
     ⊎ ((begins at x.answer ≡ true) ⊎ ((carries at x.ask ≡ false) × (begins at x.answer ≡ false)))
-own_or_other at x =
-    elim (carries at x.ask)
-    as (λ b. (b ≡ true) ⊎ ((begins at x.answer ≡ true) ⊎ ((b ≡ false) × (begins at x.answer ≡ false)))) [
-      | true ↦ inl refl
-      | false ↦ inr (elim (begins at x.answer)
-          as (λ c. (c ≡ true) ⊎ ((false ≡ false) × (c ≡ false))) [ true ↦ inl refl | false ↦ inr (refl, refl) ])
-    ]
+own_or_other at x = search (rules, arith)
 
 or_true : (a b : Bool) → b ≡ true → (a || b) ≡ true
 or_true true b e = refl
@@ -93,14 +74,7 @@ by_own : (limits : Limits) (at : List ℕ) (x : Exchange) (xs : List Exchange) (
     → Goal limits at xs → SoFar limits at life (x ∷ xs)
 unfolding Turn
 by_own limits at x xs s mid t life m n e d p own later rest more =
-    let o : Outcome = outcome s x.ask x.secret x.now in
-    one_more limits at life x xs
-    (told_own x xs at p
-    (ap lacks_memory e ∙ (outcome_sound s x.now x.ask x.secret).has_memory))
-    (e ∙ own.told ∙ ap (λ (k : Limits). alone_answer k at life x.ask x.now) m)
-    (more mid t x.now _ (ap (λ q. q.limits) d ∙ m) n later rest
-    (subst (λ (k : Limits). Fits mid x.now at (alone_after k life x.ask x.now)) m
-    (subst (λ q. Fits q x.now at (alone_after s.limits life x.ask x.now)) (sym d) own.fits)))
+    search (rules, arith, one_more, told_own, outcome_sound, Fits)
 
 pub alone_so_far : (limits : Limits) (at : List ℕ) (xs : List Exchange) → Goal limits at xs
 unfolding Turn
@@ -139,9 +113,7 @@ alone_so_far limits at (x ∷ xs) s t from life m h (later, never) (mid, turn, r
 
 pub fits_at_start : (s : State) (at : List ℕ) (o : Option Session) (b : Bool) → map.get s.sessions at ≡ o
     → nat_le (number_of at) s.issued ≡ b → Fits s 0 at (life_of o b)
-fits_at_start s at (Some session) b e l = inl e
-fits_at_start s at None true e l = (e, leb-true _ _ l)
-fits_at_start s at None false e l = e
+fits_at_start s at o b h = search (rules, arith, leb-true)
 
 pub numbered_if_lawful : (s : State) → IsLawful s → IsNumbered s
 numbered_if_lawful s h at session e = (h.numbered at session e).1
@@ -149,5 +121,4 @@ numbered_if_lawful s h at session e = (h.numbered at session e).1
 pub answered_as_alone : AnsweredAsAlone
 unfolding Turn
 answered_as_alone start xs end lawful never run at =
-    alone_so_far start.limits at xs start end 0 (life_in start at) refl (numbered_if_lawful start lawful) never run
-    (fits_at_start start at (map.get start.sessions at) (nat_le (number_of at) start.issued) refl refl)
+    search (rules, arith, alone_so_far, numbered_if_lawful, fits_at_start)

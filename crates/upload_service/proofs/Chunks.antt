@@ -1,13 +1,14 @@
 -- What an open session has is what it received, and what a closed one takes.
+use Rattle.std.proofs.lemmas.Grind.{common_steps}
 use Rattle.std.proofs.Common.{◌≡◌, ℕ, ◌≤◌, List, [], ◌∷◌, ◌++◌, true, false, Option, Some, None, refl, sym, ◌∙◌, ap}
-use Rattle.std.proofs.Common.{subst, ◌⊎◌, inl, inr, cond, arith}
+use Rattle.std.proofs.Common.{subst, ◌⊎◌, inl, inr, cond, arith, rules}
 use Rattle.std.specs.Prelude.{◌||◌}
 use Rattle.std.specs.FinMap as map
 use Rattle.upload_names.specs.Reference.{number_of}
 use Rattle.upload_service.specs.declared.ask.Ask.{Ask}
 use Rattle.upload_service.specs.declared.answer.Answer.{Answer}
 use Rattle.upload_service.specs.Machine.{swept, Session, State, SessionChange, AllStay, OneBegins}
-use Rattle.upload_service.specs.Machine.{OneTakes, OneLeaves, issued_with, sessions_with, state_after}
+use Rattle.upload_service.specs.Machine.{OneTakes, OneLeaves, issued_with, sessions_with}
 use Rattle.upload_service.specs.Machine.{outcome}
 use Rattle.std.specs.Prelude.{flat_map}
 use Rattle.std.proofs.Common.{append_assoc}
@@ -33,20 +34,16 @@ gave at x = cond (is_part at x) (accepted x) []
 
 pub taken-cons : (x : Exchange) (xs : List Exchange) (at : List ℕ)
     → taken (x ∷ xs) at ≡ gave at x ++ taken xs at
-taken-cons x xs at =
-    elim (is_part at x) as (λ b. flat_map accepted (cond b (x ∷ part xs at) (part xs at))
-    ≡ cond b (accepted x) [] ++ taken xs at) [ true ↦ refl | false ↦ refl ]
+taken-cons x xs at = search (rules, arith)
 
 flat_map-append : {A B : Type 0} (f : A → List B) (xs ys : List A)
     → flat_map f (xs ++ ys) ≡ flat_map f xs ++ flat_map f ys
 flat_map-append f [] ys = refl
-flat_map-append f (x ∷ xs) ys =
-    ap (λ zs. f x ++ zs) (flat_map-append f xs ys) ∙ sym (append_assoc (f x) (flat_map f xs) (flat_map f ys))
+flat_map-append f (x ∷ xs) ys = cc (append_assoc (f x) (flat_map f xs) (flat_map f ys), flat_map-append f xs ys)
 
 pub taken-append : (xs ys : List Exchange) (at : List ℕ)
     → taken (xs ++ ys) at ≡ taken xs at ++ taken ys at
-taken-append xs ys at =
-    ap (flat_map accepted) (filter-append (is_part at) xs ys) ∙ flat_map-append accepted (part xs at) (part ys at)
+taken-append xs ys at = cc (filter-append (is_part at) xs ys, flat_map-append accepted (part xs at) (part ys at))
 
 joined-append : (xs ys : List (List ℕ)) → joined_chunks (xs ++ ys) ≡ joined_chunks xs ++ joined_chunks ys
 joined-append xs ys = flat_map-append (λ chunk. chunk) xs ys
@@ -54,21 +51,11 @@ joined-append xs ys = flat_map-append (λ chunk. chunk) xs ys
 pub received-cons : (s : State) (x : Exchange) (xs : List Exchange) (at : List ℕ)
     → received s (x ∷ xs) at
     ≡ (bytes_of (map.get s.sessions at) ++ joined_chunks (gave at x)) ++ joined_chunks (taken xs at)
-received-cons s x xs at =
-    ap (λ c. bytes_of (map.get s.sessions at) ++ joined_chunks c) (taken-cons x xs at)
-    ∙ ap (λ b. bytes_of (map.get s.sessions at) ++ b) (joined-append (gave at x) (taken xs at))
-    ∙ sym
-    (append_assoc (bytes_of (map.get s.sessions at)) (joined_chunks (gave at x)) (joined_chunks (taken xs at)))
+received-cons s x xs at = simp (taken-cons, joined-append, append_assoc)
 
 pub received-push : (s : State) (xs : List Exchange) (x : Exchange) (at : List ℕ)
     → received s (xs ++ x ∷ []) at ≡ received s xs at ++ joined_chunks (gave at x)
-received-push s xs x at =
-    ap (λ c. bytes_of (map.get s.sessions at) ++ joined_chunks c)
-    (taken-append xs (x ∷ []) at ∙ ap (λ c. taken xs at ++ c) (taken-cons x [] at))
-    ∙ ap (λ b. bytes_of (map.get s.sessions at) ++ b) (joined-append (taken xs at) (gave at x ++ [])
-    ∙ ap (λ b. joined_chunks (taken xs at) ++ b) (joined-append (gave at x) [] ∙ append_none _))
-    ∙ sym
-    (append_assoc (bytes_of (map.get s.sessions at)) (joined_chunks (taken xs at)) (joined_chunks (gave at x)))
+received-push s xs x at = simp (taken-append, taken-cons, joined-append, append_none, append_assoc)
 
 gave_none : (x : Exchange) (at : List ℕ) → accepted x ≡ [] → gave at x ≡ []
 gave_none x at e = elim (is_part at x) as (λ b. cond b (accepted x) [] ≡ []) [ true ↦ e | false ↦ refl ]
@@ -85,8 +72,7 @@ Grew s t at x = bytes_of (map.get t.sessions at) ≡ bytes_of (map.get s.session
 
 kept : (s t : State) (at : List ℕ) (x : Exchange) → map.get t.sessions at ≡ map.get s.sessions at
     → gave at x ≡ [] → Grew s t at x
-kept s t at x e g =
-    ap bytes_of e ∙ sym (ap (λ c. bytes_of (map.get s.sessions at) ++ joined_chunks c) g ∙ append_none _)
+kept s t at x e g = cc (append_none _)
 
 -- a reference whose number isn't issued has nothing
 nothing_yet : (s : State) (at : List ℕ) (o : Option Session) → map.get s.sessions at ≡ o
@@ -97,8 +83,7 @@ nothing_yet s at (Some session) e n = absurd (n session refl)
 grows_with : (s : State) (x : Exchange) (change : SessionChange) (rest : State)
     → FitsChange s x.ask x.secret x.now x.answer change → IsNumbered s → (at : List ℕ)
     → IsGone (state_with s x.now change rest) at ⊎ Grew s (state_with s x.now change rest) at x
-grows_with s x AllStay rest f h at =
-    inr (kept s (state_with s x.now AllStay rest) at x refl (gave_none x at f.accepts_none))
+grows_with s x AllStay rest f h at = search (rules, arith, kept, state_with, gave_none)
 grows_with s x (OneBegins name new) rest f h at =
     let g : gave at x ≡ [] =
     gave_none x at (not_accepted x.ask x.answer (ap is_taken f.1) (ap is_stored f.1)) in
@@ -151,28 +136,15 @@ gone_with : (s : State) (ask : Ask) (secret : List ℕ) (now : ℕ) (answer : An
     → FitsChange s ask secret now answer change → (at : List ℕ) → IsGone s at
     → (map.get (sessions_with s now change) at ≡ None) × (number_of at ≤ issued_with s.issued change)
 gone_with s ask secret now answer AllStay f at g = g
-gone_with s ask secret now answer (OneBegins name new) f at g = (
-  get-insert_other (swept s now) new _ at (not_new s secret at new f.0.is_new f.0.numbers_left g.1)
-      ∙ none_there s now at g.0,
-  let le : number_of at ≤ s.issued = g.1 in omega arith,
-)
-gone_with s ask secret now answer (OneTakes name to got) f at g = (
-  get-insert_other s.sessions to _ at
-      (λ same. None≢Some (sym g.0 ∙ ap (map.get s.sessions) same ∙ f.0.found.is_open)) ∙ g.0,
-  g.1,
-)
-gone_with s ask secret now answer (OneLeaves to) f at g = (
-  get-remove_other s.sessions to at (λ same. None≢Some (sym g.0 ∙ ap (map.get s.sessions) same ∙ f.found.is_open))
-      ∙ g.0,
-  g.1,
-)
+gone_with s ask secret now answer (OneBegins name new) f at g =
+    search (rules, arith, get-insert_other, not_new, none_there)
+gone_with s ask secret now answer (OneTakes name to got) f at g = search (rules, arith, get-insert_other, None≢Some)
+gone_with s ask secret now answer (OneLeaves to) f at g = search (rules, arith, get-remove_other, None≢Some)
 
 pub gone_turn : (s : State) (x : Exchange) (t : State) (at : List ℕ) → Turn s x.ask x.secret x.now x.answer t
     → IsGone s at → IsGone t at
 unfolding Turn
-gone_turn s x t at (inl did) g =
-    subst (λ q. IsGone q at) (sym did.1)
-    (gone_with s x.ask x.secret x.now x.answer _ (turn_fits s x.ask x.secret x.now x.answer did.0) at g)
+gone_turn s x t at (inl did) g = search (rules, arith, IsGone, gone_with, turn_fits)
 gone_turn s x t at (inr lacked) g = subst (λ q. IsGone q at) (sym lacked.2) g
 
 pub gone_run : (xs : List Exchange) (s t : State) (at : List ℕ) → Run s xs t → IsGone s at → IsGone t at
@@ -196,23 +168,22 @@ numbered_run (x ∷ xs) s t (mid, turn, rest) h = numbered_run xs mid t rest (nu
 grew_turn : (s : State) (x : Exchange) (t : State) (at : List ℕ) → Turn s x.ask x.secret x.now x.answer t → IsNumbered s
     → IsGone t at ⊎ Grew s t at x
 unfolding Turn
-grew_turn s x t at (inl did) h =
-    subst (λ q. IsGone q at ⊎ Grew s q at x) (sym did.1)
-    (grows_with s x _ (state_after s x.now (outcome s x.ask x.secret x.now))
-    (turn_fits s x.ask x.secret x.now x.answer did.0) h at)
-grew_turn s x t at (inr lacked) h =
-    inr (kept s t at x (ap (λ q. map.get q.sessions at) lacked.2)
-    (gave_none x at (not_accepted x.ask x.answer (ap is_taken lacked.1) (ap is_stored lacked.1))))
+grew_turn s x t at (inl did) h = search (rules, arith, IsGone, grows_with, turn_fits)
+grew_turn s x t at (inr lacked) h = search (rules, arith, kept, gave_none, not_accepted)
 
 -- THE INVARIANT: what an open session has is what it received.
 pub open_is_received : (xs : List Exchange) (s t : State) (at : List ℕ) (session : Session) → Run s xs t → IsNumbered s
     → map.get t.sessions at ≡ Some session → session.received ≡ received s xs at
 unfolding Turn
-open_is_received [] s t at session e h is =
-    ap bytes_of (sym is ∙ ap (λ q. map.get q.sessions at) e) ∙ sym (append_none _)
+open_is_received [] s t at session e h is = cc (append_none _)
 open_is_received (x ∷ xs) s t at session (mid, turn, rest) h is =
-    open_is_received xs mid t at session rest (numbered_turn s x mid turn h) is
-    ∙ elim (grew_turn s x mid at turn h) as (λ _. received mid xs at ≡ received s (x ∷ xs) at) [
-      | inl gone ↦ absurd (None≢Some (sym (gone_run xs mid t at rest gone).0 ∙ is))
-      | inr grew ↦ ap (λ b. b ++ joined_chunks (taken xs at)) grew ∙ sym (received-cons s x xs at)
-    ]
+    grind (
+      arith,
+      common_steps,
+      numbered_turn,
+      grew_turn,
+      None≢Some,
+      gone_run,
+      received-cons,
+      open_is_received xs mid t,
+    )

@@ -1,7 +1,7 @@
 -- What an outcome says of the request and the state that it came from, by what it changes and what it answers: so no
 -- proof behind `Steps` goes through all outcomes.
 use Rattle.std.proofs.Common.{◌≡◌, ◌≢◌, ℕ, ◌+◌, ◌<◌, ◌≤◌, List, [], ◌++◌, length, Bool, true, false, Option, Some, None}
-use Rattle.std.proofs.Common.{refl, sym, ◌∙◌, ap, ◌⊎◌}
+use Rattle.std.proofs.Common.{refl, sym, ◌⊎◌, arith, rules}
 use Rattle.std.specs.Prelude.{◌&&◌, if◌then◌else◌}
 use Rattle.std.proofs.lemmas.Bool.{true≢false}
 use Rattle.std.specs.FinMap as map
@@ -12,12 +12,12 @@ use Rattle.upload_service.specs.declared.ask.Ask.TheVariants as asks
 use Rattle.upload_service.specs.declared.ask.Extent.{Extent}
 use Rattle.upload_service.specs.declared.answer.Answer.{Answer}
 use Rattle.upload_service.specs.declared.answer.Answer.TheVariants as answers
-use Rattle.upload_service.specs.UploadView.{act_view, UploadView, OfSession, Opens, WholeBlob, Unrelated, upload_view}
-use Rattle.upload_service.specs.UploadView.{on_session, opened_under, answer_view}
+use Rattle.upload_service.specs.UploadView.{upload_view}
+use Rattle.upload_service.specs.UploadView.{opened_under, answer_view}
 use Rattle.upload_service.specs.Machine.{same, is_idle, awake, all_awake, Session, State, Outcome, SessionChange}
 use Rattle.upload_service.specs.Machine.{AllStay, OneBegins, OneTakes, OneLeaves, effect, answer_of, issued_with}
 use Rattle.upload_service.specs.Machine.{sessions_with, last_number, holds}
-use Rattle.upload_service.specs.Session.{carries, is_taken, is_stored, chunk_if, accepted_of, closed_by, closes_of}
+use Rattle.upload_service.specs.Session.{carries, is_taken, is_stored, chunk_if, accepted_of, closes_of}
 use Rattle.upload_service.specs.Alone.{lacks_memory}
 use Rattle.upload_service.specs.Headline.{aim_of}
 use Rattle.upload_service.proofs.UploadView.{on_each}
@@ -105,30 +105,17 @@ and_left false b e = absurd (true≢false (sym e))
 -- no body was taken
 pub not_accepted : (ask : Ask) (answer : Answer) → is_taken answer ≡ false → is_stored answer ≡ false
     → accepted_of ask answer ≡ []
-not_accepted ask answer t s =
-    on_each (λ bodies. bodies ≡ []) (upload_view ask) [] _ refl (λ name at act.
-    ap (λ b. chunk_if b (act_view act).chunk) (either_false (act_view act).closes _ _ s t)
-    ∙ chunk_if_not (act_view act).chunk)
+not_accepted ask answer t s = search (rules, arith, on_each, either_false, chunk_if_not)
 
 -- no session was closed
 pub not_closed : (at : List ℕ) (ask : Ask) (answer : Answer) → (answer_view answer).closed ≡ false
     → closes_of at ask answer ≡ false
-not_closed at ask answer s =
-    on_each (λ b. b ≡ false) (upload_view ask) false _ refl (λ name to act.
-    ap (λ b. same at to && ((act_view act).closes && b)) s ∙ ap (λ b. same at to && b) (and_false (act_view act).closes)
-    ∙ and_false (same at to))
+not_closed at ask answer s = search (rules, arith, on_each, and_false)
 
 -- what closes a session carries its reference
 pub closes_carried : (at : List ℕ) (ask : Ask) (answer : Answer) → closes_of at ask answer ≡ true
     → carries at ask ≡ true
-closes_carried at ask answer c = by_view (upload_view ask) c
-  where
-    by_view : (v : UploadView) → on_session v false (λ name to act. same at to && closed_by act answer) ≡ true
-        → on_session v false (λ name to act. same at to) ≡ true
-    by_view (OfSession name to act) c = and_left (same at to) _ c
-    by_view (Opens name) c = c
-    by_view (WholeBlob body) c = c
-    by_view Unrelated c = c
+closes_carried at ask answer c = search (rules, arith, and_left)
 
 -- ---- the sessions
 

@@ -1,6 +1,7 @@
 -- A repository that has a blob no more: which pairs and which blobs are left.
-use Rattle.std.proofs.Common.{◌≡◌, ◌≢◌, ℕ, ◌-◌, List, Bool, true, false, Some, None, refl, sym, ◌∙◌, ap, cond, inl, inr}
-use Rattle.std.specs.Prelude.{◌&&◌, ◌==◌, not, is_some, IsSome}
+use Rattle.std.proofs.Common.{arith, rules}
+use Rattle.std.proofs.Common.{◌≡◌, ◌≢◌, ℕ, ◌-◌, List, Bool, true, false, Some, None, refl, sym, ◌∙◌, ap, cond}
+use Rattle.std.specs.Prelude.{◌&&◌, ◌==◌, not, IsSome}
 use Rattle.std.specs.Ordering.{eq_by_cmp}
 use Rattle.std.specs.FinMap as map
 use Rattle.std.specs.FinMap.{FinMap}
@@ -9,7 +10,7 @@ use Rattle.std.specs.FinSet.{FinSet}
 use Rattle.std.proofs.lemmas.Bool.{true≢false, false_from_ne_true, and_parts, eqb-true}
 use Rattle.std.proofs.Math.Bool.{and-true, and-false}
 use Rattle.upload_names.specs.Digest.{Digest, digest_cmp, HasDigest}
-use Rattle.upload_service.specs.Machine.{State, IsLawful, same, same_digest, pair_cmp, holds}
+use Rattle.upload_service.specs.Machine.{State, IsLawful, same_digest, pair_cmp, holds}
 use Rattle.upload_service.specs.Forgotten.{pairs_under, is_only, blobs_left, forgotten}
 use Rattle.upload_service.proofs.Keeping.Tables.{one_or_two, same_from_eq, same_from_ne, same_digest_from_eq}
 use Rattle.upload_service.proofs.Keeping.Tables.{eq_from_same_digest, digests_total, pairs_total, pairs_exact}
@@ -56,12 +57,12 @@ not_only pairs name other digest has also ne =
 pub only_holder : (pairs : FinSet pair_cmp) (name other : List ℕ) (digest : Digest)
     → is_only pairs name digest ≡ true → set.contains pairs (other, digest) ≡ true → other ≡ name
 only_holder pairs name other digest only has =
-    let both = and_parts (set.contains pairs (name, digest)) _ only in
-    elim (one_or_two other name) [
-      | inl e ↦ e
-      | inr ne ↦ absurd (true≢false
-          (sym both.1 ∙ not_only pairs name other digest both.0 has ne))
-    ]
+    grind (
+      arith,
+      and_parts (set.contains pairs (name, digest)) _ only,
+      one_or_two other name,
+      not_only pairs name other digest,
+    )
 
 -- a pair that isn't there
 pub remove_absent : (pairs : FinSet pair_cmp) (p : List ℕ × Digest) → set.contains pairs p ≡ false
@@ -77,8 +78,7 @@ remove_absent pairs p h =
 
 pub absent_left : (blobs : FinMap digest_cmp (List ℕ)) (pairs : FinSet pair_cmp) (name : List ℕ) (digest : Digest)
     → set.contains pairs (name, digest) ≡ false → blobs_left blobs pairs name digest ≡ blobs
-absent_left blobs pairs name digest h =
-    ap (λ b. cond (b && (set.len (pairs_under pairs digest) == 1)) (map.remove blobs digest) blobs) h
+absent_left blobs pairs name digest h = cc
 
 -- the blobs without one
 pub get-without : (blobs : FinMap digest_cmp (List ℕ)) (digest : Digest) (gone : Bool) (q : Digest)
@@ -91,35 +91,24 @@ get-without blobs digest false q = sym (ap (λ b. cond b None (map.get blobs q))
 -- what is left is lawful too
 own_digest_left : (s : State) (name : List ℕ) (digest : Digest) → IsLawful s → (d : Digest) (blob : List ℕ)
     → map.get (blobs_left s.blobs s.pairs name digest) d ≡ Some blob → HasDigest blob d
-own_digest_left s name digest h d blob e =
-    by_test (λ o. o ≡ Some blob → HasDigest blob d) (same_digest d digest && is_only s.pairs name digest) None
-    (map.get s.blobs d) (λ _ none. absurd (None≢Some none)) (λ _ is. h.own_digest d blob is)
-    (sym (get-without s.blobs digest (is_only s.pairs name digest) d) ∙ e)
+own_digest_left s name digest h d blob e = search (rules, arith, by_test, None≢Some, get-without)
 
 stored_left : (s : State) (name : List ℕ) (digest : Digest) → IsLawful s → (n : List ℕ) (d : Digest)
     → holds (forgotten s name digest) n d ≡ true → IsSome (map.get (blobs_left s.blobs s.pairs name digest) d)
 stored_left s name digest h n d has =
-    let both : (not (same n name && same_digest d digest) && holds s n d) ≡ true =
-    sym (contains-remove s.pairs (name, digest) (n, d)
-    ∙ ap (λ b. not b && holds s n d) (names_first n name d digest)) ∙ has in
-    let had : holds s n d ≡ true = (and_parts (not (same n name && same_digest d digest)) _ both).1 in
-    ap is_some (get-without s.blobs digest (is_only s.pairs name digest) d)
-    ∙ by_test (λ o. is_some o ≡ true) (same_digest d digest && is_only s.pairs name digest) None (map.get s.blobs d)
-    (λ gone.
-    let here : same_digest d digest ≡ true = (and_parts (same_digest d digest) _ gone).0 in
-    let only : is_only s.pairs name digest ≡ true = (and_parts (same_digest d digest) _ gone).1 in
-    let n_is : n ≡ name =
-    only_holder s.pairs name n digest only (sym (ap (holds s n) (eq_from_same_digest d digest here)) ∙ had) in
-    absurd (true≢false (sym (and_parts (not (same n name && same_digest d digest)) _ both).0
-    ∙ (λ i. not (same_from_eq n name n_is i && here i)))))
-    (λ _. h.stored n d had)
+    search (
+      rules,
+      arith,
+      contains-remove,
+      names_first,
+      and_parts,
+      get-without,
+      by_test,
+      only_holder,
+      eq_from_same_digest,
+      true≢false,
+      same_from_eq,
+    )
 
 pub lawful_forgotten : (s : State) (name : List ℕ) (digest : Digest) → IsLawful s → IsLawful (forgotten s name digest)
-lawful_forgotten s name digest h = record {
-  numbered = h.numbered;
-  different = h.different;
-  few = h.few;
-  small = h.small;
-  own_digest = own_digest_left s name digest h;
-  stored = stored_left s name digest h;
-}
+lawful_forgotten s name digest h = search (rules, arith, own_digest_left, stored_left)

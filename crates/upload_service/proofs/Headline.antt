@@ -1,13 +1,12 @@
 -- The headline: what a session commits, what a chunk that misses does, and what a closed session takes.
-use Rattle.std.proofs.Common.{◌≡◌, ◌≢◌, ℕ, ◌+◌, ◌-◌, ◌≤◌, List, [], ◌∷◌, ◌++◌, length, true, false, Option, Some, None}
-use Rattle.std.proofs.Common.{refl, sym, ◌∙◌, ap, subst, inl, inr, not}
-use Rattle.std.specs.Prelude.{◌||◌, ◌==◌, nat_lt, if◌then◌else◌}
+use Rattle.std.proofs.Common.{◌≡◌, ◌≢◌, ℕ, ◌≤◌, List, [], ◌∷◌, ◌++◌, length, true, false, Option, Some, None}
+use Rattle.std.proofs.Common.{refl, sym, ◌∙◌, ap, subst, inl, inr, arith, rules}
+use Rattle.std.specs.Prelude.{◌||◌}
 use Rattle.std.proofs.lemmas.Bool.{true≢false}
 use Rattle.std.specs.FinMap as map
-use Rattle.std.specs.FinSet as set
 use Rattle.upload_names.specs.Reference.{number_of}
 use Rattle.upload_names.specs.ByteRange.{Span}
-use Rattle.upload_names.specs.Digest.{Digest, HasDigest}
+use Rattle.upload_names.specs.Digest.{Digest}
 use Rattle.upload_service.specs.declared.ask.Extent.{Extent}
 use Rattle.upload_service.specs.declared.ask.Extent.TheVariants.{Given}
 use Rattle.upload_service.specs.declared.answer.Refusal.TheVariants as refusals
@@ -15,12 +14,12 @@ use Rattle.upload_service.specs.declared.ask.Ask.{Ask}
 use Rattle.upload_service.specs.declared.ask.Ask.TheVariants as asks
 use Rattle.upload_service.specs.declared.answer.Answer.{Answer}
 use Rattle.upload_service.specs.declared.answer.Answer.TheVariants as answers
-use Rattle.upload_service.specs.UploadView.{Act, Sends, Closes, UploadView, OfSession, upload_view}
-use Rattle.upload_service.specs.UploadView.{on_session, answer_view}
+use Rattle.upload_service.specs.UploadView.{Act}
+use Rattle.upload_service.specs.UploadView.{answer_view}
 use Rattle.upload_service.specs.Machine.{unless_idle, awake, Session, State, Outcome, Replies, SessionChange, AllStay}
 use Rattle.upload_service.specs.Machine.{OneBegins, OneTakes, OneLeaves, effect, answer_of, issued_with, sessions_with}
-use Rattle.upload_service.specs.Machine.{blobs_with, pairs_with, state_after, refused, size_fault, Progress}
-use Rattle.upload_service.specs.Machine.{progress_of, body_fault, unless_fault, at_session, outcome}
+use Rattle.upload_service.specs.Machine.{blobs_with, pairs_with, state_after, refused, Progress}
+use Rattle.upload_service.specs.Machine.{body_fault, unless_fault, at_session, outcome}
 use Rattle.upload_service.proofs.Keeping.Tables.{eq_from_same}
 use Rattle.std.specs.List.{list_any}
 use Rattle.std.proofs.lemmas.Bool.{eqb-true, false_from_ne_true}
@@ -28,11 +27,11 @@ use Rattle.upload_service.specs.Machine.{Turn, IsLawful, may_lack_memory}
 use Rattle.upload_service.proofs.Claims.{CommitsItsChunks, MissedChunkChangesNothing, MisplacedOnlyThere}
 use Rattle.upload_service.proofs.Claims.{ClosedTakesNothing}
 use Rattle.upload_service.specs.Run.{Exchange, Run}
-use Rattle.upload_service.specs.Session.{carries, accepted_of, joined_chunks, received, closes_of}
+use Rattle.upload_service.specs.Session.{carries, received, closes_of}
 use Rattle.upload_service.specs.Headline.{Aim, aim_by, aim_of, IsCommitted}
 use Rattle.upload_service.proofs.Keeping.Tables.{get-remove_same, same_itself, blob-insert_same, contains-insert_same}
 use Rattle.upload_service.proofs.UploadView.{named as named_session, carried}
-use Rattle.upload_service.proofs.Steps.{outcome_of_view, outcome_sound, awake_is_open, None≢Some, turn_fits}
+use Rattle.upload_service.proofs.Steps.{outcome_of_view, outcome_sound, awake_is_open, turn_fits}
 use Rattle.upload_service.proofs.Effects.{IsMisplaced, FitsChange, FitsStore, IsOutcome, state_with, not_closed}
 use Rattle.upload_service.proofs.Effects.{closes_carried, FitsAnswer}
 use Rattle.upload_service.proofs.Turns.{IsNumbered, IsGone}
@@ -53,44 +52,22 @@ committed_with : (start : State) (front : List Exchange) (before : State) (x : E
     (state_with before x.now change
     (record before { blobs = blobs_with before.blobs stored; pairs = pairs_with before.pairs pair }))
 unfolding Turn
-committed_with start front before x change stored None lawful run f t name at range asked body name' digest a r =
-    absurd (None≢Some (sym t ∙ ap (λ b. (answer_view b).pair) r))
-committed_with start front before x change None (Some (n, d)) lawful run f t name at range asked body name' digest a r =
-    let no : asks.Mount n d f.source ≡ asks.Close name at range asked body = sym f.asked ∙ a in cc
-committed_with start front before x change (Some (of, blob)) (Some (n, d)) lawful run (is_of, inr f) t name at range
-    asked body name' digest a r =
-    let no : asks.Single n (Some d) blob ≡ asks.Close name at range asked body = sym f.asked ∙ a in cc
-committed_with start front before x change (Some (of, blob)) (Some (n, d)) lawful run (is_of, inl (to, f)) t name at
-    range asked body name' digest a r =
-    let ds : ◌≡◌ {A = Option (List ℕ × Digest)} (Some (n, d)) (Some (name', digest)) =
-    sym t ∙ ap (λ b. (answer_view b).pair) r in
-    let told : ◌≡◌ {A = List ℕ × Digest} (n, d) (name', digest) = cc in
-    let d_is : d ≡ digest = ap (λ (p : List ℕ × Digest). p.1) told in
-    let fields : asks.Close n to f.range (Some d) f.body ≡ asks.Close name at range asked body = sym f.asked ∙ a in
-    let n_is : n ≡ name = cc in
-    let to_is : to ≡ at = cc in
-    let some_is : Some d ≡ asked = cc in
-    let body_is : f.body ≡ body = cc in
-    let h : IsNumbered before = numbered_run front start before run (numbered_if_lawful start lawful) in
-    let carried : carries at x.ask ≡ true = ap (carries at) a ∙ same_itself at in
-    let g : gave at x ≡ body ∷ [] = gave_own x at carried ∙ (λ i. accepted_of (a i) (r i)) in
-    let had : f.found.session.received ≡ received start front at =
-    open_is_received front start before at f.found.session run (numbered_if_lawful start lawful)
-    (ap (map.get before.sessions) (sym to_is) ∙ f.found.is_open) in
-    let blob_is : blob ≡ received start (front ++ x ∷ []) at =
-    f.grown ∙ (λ i. had i ++ body_is i)
-    ∙ sym (received-push start front x at ∙ ap (λ c. received start front at ++ joined_chunks c) g
-    ∙ ap (λ b. received start front at ++ b) (append_none body)) in
-    let blobs = map.insert before.blobs of blob in
-    let pairs = set.insert before.pairs (n, d) in
-    let n'_is : n ≡ name' = ap (λ (p : List ℕ × Digest). p.0) told in
-    record {
-      named = sym n'_is ∙ n_is;
-      asked_for = sym some_is ∙ ap Some d_is;
-      own_digest = subst (λ b. HasDigest b digest) blob_is (subst (HasDigest blob) d_is f.own_digest);
-      stored = ap (map.get blobs) (sym d_is ∙ sym is_of) ∙ blob-insert_same before.blobs of blob ∙ ap Some blob_is;
-      held = (λ i. set.contains pairs (sym n_is i, sym d_is i)) ∙ contains-insert_same before.pairs (n, d);
-    }
+committed_with start front before x change stored pair h1 h2 h3 h4 name at range asked body name' digest h5 h6 =
+    search (
+      rules,
+      arith,
+      IsNumbered,
+      numbered_run,
+      numbered_if_lawful,
+      same_itself,
+      gave,
+      gave_own,
+      open_is_received,
+      received-push,
+      append_none,
+      blob-insert_same,
+      contains-insert_same,
+    )
 
 pub commits_its_chunks : CommitsItsChunks
 unfolding Turn
@@ -112,44 +89,18 @@ commits_its_chunks start front before x after m name at range asked body name' d
 misses_next : (max_blob : ℕ) (upload : Progress) (r : Span) (body : List ℕ) (o : Outcome) → r.first ≢ upload.next
     → unless_fault (body_fault max_blob upload (Given r) body) o
     ≡ Replies (answers.Misplaced upload.name upload.at upload.next)
-misses_next max_blob upload r body o n =
-    let e : (r.first == upload.next) ≡ false = false_from_ne_true _ (λ is. n (eqb-true _ _ is)) in
-    ap (λ b. unless_fault (if not b then Some (answers.Misplaced upload.name upload.at upload.next)
-    else if nat_lt r.last r.first
-    || not (r.last - r.first + 1 == length body) then Some (answers.Refused refusals.WrongLength)
-    else size_fault max_blob upload.next body) o) e
+misses_next max_blob upload r body o n = search (rules, arith, false_from_ne_true, eqb-true)
 
 missed_act : (s : State) (now : ℕ) (aim : Aim) (session : Session) → awake s now aim.at ≡ Some session
     → session.name ≡ aim.name → aim.first ≢ length session.received → (name at : List ℕ) (act : Act)
     → aim_by name at act ≡ Some aim → at_session s.limits.max_blob (awake s now at) name at act
     ≡ Replies (answers.Misplaced aim.name aim.at (length session.received))
-missed_act s now aim session is_awake named miss name at (Sends (Given r) body) e =
-    let is : ◌≡◌ {A = Aim} (record { name = name; at = at; first = r.first }) aim = cc in
-    let missed_r : r.first ≢ length session.received = λ q. miss (ap (λ (a : Aim). a.first) (sym is) ∙ q) in
-    named_session s.limits.max_blob (awake s now at) session name at _
-    (ap (λ (a : Aim). awake s now a.at) is ∙ is_awake) (named ∙ ap (λ (a : Aim). a.name) (sym is))
-    ∙ misses_next s.limits.max_blob (progress_of session name at) r body _ missed_r
-    ∙ ap (λ (a : Aim). Replies (answers.Misplaced a.name a.at (length session.received))) is
-missed_act s now aim session is_awake named miss name at (Closes (Given r) digest body) e =
-    let is : ◌≡◌ {A = Aim} (record { name = name; at = at; first = r.first }) aim = cc in
-    let missed_r : r.first ≢ length session.received = λ q. miss (ap (λ (a : Aim). a.first) (sym is) ∙ q) in
-    named_session s.limits.max_blob (awake s now at) session name at _
-    (ap (λ (a : Aim). awake s now a.at) is ∙ is_awake) (named ∙ ap (λ (a : Aim). a.name) (sym is))
-    ∙ misses_next s.limits.max_blob (progress_of session name at) r body _ missed_r
-    ∙ ap (λ (a : Aim). Replies (answers.Misplaced a.name a.at (length session.received))) is
-missed_act s now aim session is_awake named miss name at other e = cc
+missed_act s now aim session h1 h2 h3 name at act = search (rules, arith, named_session, misses_next)
 
 missed : (s : State) (secret : List ℕ) (now : ℕ) (aim : Aim) (session : Session) → awake s now aim.at ≡ Some session
     → session.name ≡ aim.name → aim.first ≢ length session.received → (ask : Ask) → aim_of ask ≡ Some aim
     → outcome s ask secret now ≡ Replies (answers.Misplaced aim.name aim.at (length session.received))
-missed s secret now aim session is_awake named miss ask e = by_view (upload_view ask) refl e
-  where
-    by_view : (v : UploadView) → upload_view ask ≡ v → on_session v None aim_by ≡ Some aim
-        → outcome s ask secret now ≡ Replies (answers.Misplaced aim.name aim.at (length session.received))
-    by_view (OfSession name at act) is aims =
-        outcome_of_view s ask secret now name at act is
-        ∙ missed_act s now aim session is_awake named miss name at act aims
-    by_view other is aims = cc
+missed s secret now aim session is_awake named miss ask e = search (rules, arith, outcome_of_view, missed_act)
 
 -- a turn whose outcome hands nothing out
 plain_turn : (s : State) (x : Exchange) (t : State) (answer : Answer) → Turn s x.ask x.secret x.now x.answer t
@@ -175,26 +126,15 @@ missed_chunk_changes_nothing start front before x after m aim aimed (session, is
 pub misplaced_only_there : MisplacedOnlyThere
 unfolding Turn
 misplaced_only_there start front before x after m name at next r =
-    elim m.turn [
-      | inl did ↦
-          let f : IsMisplaced before x.now x.ask name at next =
-          subst (FitsAnswer before x.now x.ask) (sym did.0 ∙ r) (outcome_sound before x.now x.ask x.secret).answered in
-          let had : f.found.session.received ≡ received start front at =
-          open_is_received front start before at f.found.session m.so_far (numbered_if_lawful start m.lawful)
-          f.found.is_open in
-          (f.first, f.aimed, (f.found.session, f.found.is_awake, f.found.named), f.is_next ∙ ap length had, f.missed)
-      | inr lacked ↦ let no : answers.NoMemory ≡ answers.Misplaced name at next = sym lacked.1 ∙ r in cc
-    ]
+    search (rules, arith, IsMisplaced, FitsAnswer, outcome_sound, open_is_received, numbered_if_lawful)
 
 -- closed
 closing_with : (s : State) (x : Exchange) (change : SessionChange) (at : List ℕ)
     → FitsChange s x.ask x.secret x.now x.answer change → IsNumbered s → closes_of at x.ask x.answer ≡ true
     → (map.get (sessions_with s x.now change) at ≡ None) × (number_of at ≤ issued_with s.issued change)
 closing_with s x AllStay at f h c = absurd (true≢false (sym c ∙ f.closes_none at))
-closing_with s x (OneBegins n to) at f h c =
-    absurd (true≢false (sym c ∙ not_closed at x.ask x.answer (ap (λ a. (answer_view a).closed) f.1)))
-closing_with s x (OneTakes n to got) at f h c =
-    absurd (true≢false (sym c ∙ not_closed at x.ask x.answer (ap (λ a. (answer_view a).closed) f.1)))
+closing_with s x (OneBegins n to) at f h c = search (rules, arith, true≢false, not_closed)
+closing_with s x (OneTakes n to got) at f h c = search (rules, arith, true≢false, not_closed)
 closing_with s x (OneLeaves to) at f h c =
     let is : at ≡ to = eq_from_same at to (sym (f.carried at) ∙ closes_carried at x.ask x.answer c) in (
       ap (map.get (map.remove s.sessions to)) is ∙ get-remove_same s.sessions to,
@@ -207,8 +147,7 @@ unfolding Turn
 closing_turn s x t at (inl did) h c =
     subst (λ q. IsGone q at) (sym did.1)
     (closing_with s x _ at (turn_fits s x.ask x.secret x.now x.answer did.0) h c)
-closing_turn s x t at (inr lacked) h c =
-    absurd (true≢false (sym c ∙ not_closed at x.ask x.answer (ap (λ a. (answer_view a).closed) lacked.1)))
+closing_turn s x t at (inr lacked) h c = search (rules, arith, true≢false, not_closed)
 
 closed_is_gone : (xs : List Exchange) (s t : State) (at : List ℕ) → Run s xs t → IsNumbered s
     → list_any (λ x. closes_of at x.ask x.answer) xs ≡ true → IsGone t at

@@ -1,7 +1,6 @@
 -- A service stays lawful.
-use Rattle.std.proofs.Common.{◌≡◌, ◌≢◌, ℕ, ◌+◌, ◌-◌, ◌<◌, ◌≤◌, List, [], ◌∷◌, length, true, false, Option, Some, None}
-use Rattle.std.proofs.Common.{refl, sym, ◌∙◌, ap, subst, ◌⊎◌, inl, inr, cond, arith}
-use Rattle.std.specs.Prelude.{◌||◌}
+use Rattle.std.proofs.Common.{◌≡◌, ◌≢◌, ℕ, ◌+◌, ◌-◌, ◌<◌, ◌≤◌, List, [], ◌∷◌, length, true, Option, Some, None}
+use Rattle.std.proofs.Common.{refl, sym, ◌∙◌, ap, subst, ◌⊎◌, inl, inr, cond, arith, rules}
 use Rattle.std.proofs.lemmas.Bool.{true≢false}
 use Rattle.std.specs.FinMap as map
 use Rattle.std.specs.FinMap.{FinMap}
@@ -65,11 +64,7 @@ each_insert m k v P new each at session e =
 each_remove : (m : Table Session) (k : List ℕ) (P : List ℕ → Session → Type 0)
     → ((at : List ℕ) (session : Session) → map.get m at ≡ Some session → P at session)
     → (at : List ℕ) (session : Session) → map.get (map.remove m k) at ≡ Some session → P at session
-each_remove m k P each at session e =
-    elim (one_or_two at k) [
-      | inl same ↦ absurd (None≢Some (sym (get-remove_same m k) ∙ ap (map.get (map.remove m k)) (sym same) ∙ e))
-      | inr other ↦ each at session (sym (get-remove_other m k at other) ∙ e)
-    ]
+each_remove m k P each at session e = search (rules, arith, one_or_two, None≢Some, get-remove_same, get-remove_other)
 
 abbrev IsNumberIn : ℕ → List ℕ → Session → Type 0
 IsNumberIn issued at session = (0 < number_of at) × (number_of at ≤ issued)
@@ -85,33 +80,14 @@ different_insert : (m : Table Session) (k : List ℕ) (v : Session)
     → ((at : List ℕ) → at ≢ k → IsSome (map.get m at) → number_of at ≢ number_of k) → AreDifferent m
     → AreDifferent (map.insert m k v)
 different_insert m k v fresh h a b p q e =
-    elim (one_or_two a k) [
-      | inl a_is ↦
-          elim (one_or_two b k) [
-            | inl b_is ↦ a_is ∙ sym b_is
-            | inr b_not ↦ absurd
-                (fresh b b_not (sym (ap is_some (get-insert_other m k v b b_not)) ∙ q) (sym e ∙ ap number_of a_is))
-          ]
-      | inr a_not ↦
-          elim (one_or_two b k) [
-            | inl b_is ↦
-                absurd (fresh a a_not (sym (ap is_some (get-insert_other m k v a a_not)) ∙ p) (e ∙ ap number_of b_is))
-            | inr b_not ↦ h a b (sym (ap is_some (get-insert_other m k v a a_not)) ∙ p)
-                (sym (ap is_some (get-insert_other m k v b b_not)) ∙ q) e
-          ]
-    ]
+    grind (arith, one_or_two a k, one_or_two b k, get-insert_other m k v b, get-insert_other m k v a)
 
 some_before_remove : (m : Table Session) (k a : List ℕ) → IsSome (map.get (map.remove m k) a) → IsSome (map.get m a)
-some_before_remove m k a p =
-    elim (one_or_two a k) [
-      | inl same ↦ absurd (true≢false (sym p ∙ ap is_some (ap (map.get (map.remove m k)) same ∙ get-remove_same m k)))
-      | inr other ↦ sym (ap is_some (get-remove_other m k a other)) ∙ p
-    ]
+some_before_remove m k a p = search (rules, arith, one_or_two, true≢false, get-remove_same, get-remove_other)
 
 some_before_sweep : (s : State) (now : ℕ) (a : List ℕ) → IsSome (map.get (swept s now) a)
     → IsSome (map.get s.sessions a)
-some_before_sweep s now a p =
-    let found = some_is (map.get (swept s now) a) p in ap is_some (was_there s now a found.0 found.1)
+some_before_sweep s now a p = search (rules, arith, some_is, was_there)
 
 -- a blob stored under its own digest, and a pair of it
 own_digest_insert : (s : State) (digest : Digest) (blob : List ℕ) → IsLawful s → HasDigest blob digest
@@ -128,11 +104,7 @@ own_digest_insert s digest blob h own d b e =
 
 is_stored_insert : (m : FinMap digest_cmp (List ℕ)) (digest : Digest) (blob : List ℕ) (d : Digest)
     → IsSome (map.get m d) → IsSome (map.get (map.insert m digest blob) d)
-is_stored_insert m digest blob d h =
-    elim (one_or_two_digests d digest) [
-      | inl same ↦ ap is_some (ap (map.get (map.insert m digest blob)) same ∙ blob-insert_same m digest blob)
-      | inr other ↦ ap is_some (blob-insert_other m digest blob d other) ∙ h
-    ]
+is_stored_insert m digest blob d h = search (rules, arith, one_or_two_digests, blob-insert_same, blob-insert_other)
 
 pair_parts : (n : List ℕ) (d : Digest) (name : List ℕ) (digest : Digest)
     → eq_by_cmp pair_cmp (name, digest) (n, d) ≡ true → digest ≡ d
@@ -141,21 +113,12 @@ pair_parts n d name digest e = ap (λ (p : List ℕ × Digest). p.1) (pair_from_
 held_insert : (s : State) (n : List ℕ) (d : Digest) (name : List ℕ) (digest : Digest)
     → holds (record s { pairs = set.insert s.pairs (n, d) }) name digest ≡ true
     → (digest ≡ d) ⊎ (holds s name digest ≡ true)
-held_insert s n d name digest e =
-    elim (eq_by_cmp pair_cmp (name, digest) (n, d)) as (λ b. eq_by_cmp pair_cmp (name, digest) (n, d) ≡ b
-    → (b || holds s name digest) ≡ true → (digest ≡ d) ⊎ (holds s name digest ≡ true)) [
-      | true ↦ λ p _. inl (pair_parts n d name digest p)
-      | false ↦ λ _ q. inr q
-    ] refl (sym (contains-insert s.pairs (n, d) (name, digest)) ∙ e)
+held_insert s n d name digest e = search (rules, arith, pair_parts, contains-insert)
 
 stored_insert : (s : State) (n : List ℕ) (digest : Digest) (blob : List ℕ) → IsLawful s → (name : List ℕ) (d : Digest)
     → holds (record s { pairs = set.insert s.pairs (n, digest) }) name d ≡ true
     → IsSome (map.get (map.insert s.blobs digest blob) d)
-stored_insert s n digest blob h name d e =
-    elim (held_insert s n digest name d e) [
-      | inl is ↦ ap is_some (ap (map.get (map.insert s.blobs digest blob)) is ∙ blob-insert_same s.blobs digest blob)
-      | inr had ↦ is_stored_insert s.blobs digest blob d (h.stored name d had)
-    ]
+stored_insert s n digest blob h name d e = search (rules, arith, held_insert, blob-insert_same, is_stored_insert)
 
 -- what a lawful state says of its sessions
 record AreLawfulSessions (s : State) (issued : ℕ) (sessions : Table Session) : Type 0 where
@@ -167,8 +130,7 @@ record AreLawfulSessions (s : State) (issued : ℕ) (sessions : Table Session) :
 sessions_after : (s : State) (ask : Ask) (secret : List ℕ) (now : ℕ) (answer : Answer) (change : SessionChange)
     → FitsChange s ask secret now answer change → IsLawful s
     → AreLawfulSessions s (issued_with s.issued change) (sessions_with s now change)
-sessions_after s ask secret now answer AllStay f h =
-    record { numbered = h.numbered; different = h.different; few = h.few; small = h.small }
+sessions_after s ask secret now answer AllStay f h = search (rules, arith)
 sessions_after s ask secret now answer (OneBegins name new) f h =
     let n : number_of new ≡ s.issued + 1 =
     ap number_of f.0.is_new ∙ number_of-reference (s.issued + 1) secret
@@ -198,15 +160,13 @@ sessions_after s ask secret now answer (OneTakes name to got) f h =
       small = each_insert s.sessions to _ (IsSmall s.limits.max_blob) f.0.small h.small;
     }
 sessions_after s ask secret now answer (OneLeaves to) f h =
-    record {
-      numbered = each_remove s.sessions to (IsNumberIn s.issued) h.numbered;
-      different =
-          λ a b p q e. h.different a b (some_before_remove s.sessions to a p) (some_before_remove s.sessions to b q) e;
-      few =
-          let less : map.len (map.remove s.sessions to) ≤ map.len s.sessions = len_less s.sessions to in
-          let few : map.len s.sessions ≤ s.limits.max_open = h.few in omega arith;
-      small = each_remove s.sessions to (IsSmall s.limits.max_blob) h.small;
-    }
+    grind (
+      arith,
+      each_remove s.sessions to (IsNumberIn s.issued) h.numbered,
+      some_before_remove s.sessions to,
+      len_less s.sessions to,
+      each_remove s.sessions to (IsSmall s.limits.max_blob) h.small,
+    )
 
 -- and what it says of its blobs
 record IsLawfulStore (blobs : FinMap digest_cmp (List ℕ)) (pairs : FinSet pair_cmp) : Type 0 where
@@ -217,27 +177,17 @@ record IsLawfulStore (blobs : FinMap digest_cmp (List ℕ)) (pairs : FinSet pair
 -- a blob of its own digest is stored, under the pair that its repository gets
 store_insert : (s : State) (n : List ℕ) (of digest : Digest) (blob : List ℕ) → of ≡ digest → HasDigest blob digest
     → IsLawful s → IsLawfulStore (map.insert s.blobs of blob) (set.insert s.pairs (n, digest))
-store_insert s n of digest blob is own h =
-    subst (λ d. IsLawfulStore (map.insert s.blobs d blob) (set.insert s.pairs (n, digest))) (sym is)
-    (record { own_digest = own_digest_insert s digest blob h own; stored = stored_insert s n digest blob h })
+store_insert s n of digest blob is own h = search (rules, arith, own_digest_insert, stored_insert)
 
 store_after : (s : State) (now : ℕ) (ask : Ask) (blob : Option (Digest × List ℕ)) (pair : Option (List ℕ × Digest))
     → FitsStore s now ask blob pair → IsLawful s
     → IsLawfulStore (blobs_with s.blobs blob) (pairs_with s.pairs pair)
 store_after s now ask None None f h = record { own_digest = h.own_digest; stored = h.stored }
 store_after s now ask (Some stored) None f h = absurd f
-store_after s now ask None (Some (name, digest)) f h =
-    record {
-      own_digest = h.own_digest;
-      stored = λ n d e. elim (held_insert s name digest n d e) [
-        | inl is ↦ ap (λ q. is_some (map.get s.blobs q)) is ∙ h.stored f.source digest f.held
-        | inr had ↦ h.stored n d had
-      ];
-    }
+store_after s now ask None (Some (name, digest)) f h = search (rules, arith, held_insert)
 store_after s now ask (Some (of, blob)) (Some (name, digest)) (is, inl (at, f)) h =
-    store_insert s name of digest blob is f.own_digest h
-store_after s now ask (Some (of, blob)) (Some (name, digest)) (is, inr f) h =
-    store_insert s name of digest blob is f.own_digest h
+    search (rules, arith, store_insert)
+store_after s now ask (Some (of, blob)) (Some (name, digest)) (is, inr f) h = search (rules, arith, store_insert)
 
 lawful_after : (s : State) (ask : Ask) (secret : List ℕ) (now : ℕ) (o : Outcome) → IsOutcome s ask secret now o
     → IsLawful s → IsLawful (state_after s now o)

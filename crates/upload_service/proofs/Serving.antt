@@ -1,20 +1,19 @@
 -- How a path through the code meets the machine.
 use Rattle.std.proofs.Common.{◌≡◌, ◌≢◌, ℕ, ◌+◌, ◌≤◌, ◌<◌, ◌^◌, List, ◌++◌, length, true, Option, Some, None, refl, sym}
-use Rattle.std.proofs.Common.{◌∙◌, ap, subst, inl, inr, arith}
-use Rattle.std.specs.Prelude.{if◌then◌else◌}
+use Rattle.std.proofs.Common.{◌∙◌, ap, subst, inl, inr, arith, rules}
 use Rattle.std.proofs.lemmas.Bool.{true≢false, le-ltb}
 use Rattle.std.specs.FinMap as map
 use Rattle.upload_names.specs.Digest.{Digest, digest_cmp, content_digest}
 use Rattle.upload_service.specs.declared.limits.Limits.{Limits}
 use Rattle.upload_service.specs.declared.turn.Sent.{Sent}
 use Rattle.upload_service.specs.declared.answer.Refusal.TheVariants as refusals
-use Rattle.upload_service.specs.UploadView.{Act, Sends, Closes}
+use Rattle.upload_service.specs.UploadView.{Act, Sends}
 use Rattle.upload_service.proofs.UploadView.{named}
 use Rattle.upload_service.specs.declared.answer.Answer.{Answer}
 use Rattle.upload_service.specs.declared.answer.Answer.TheVariants as answers
 use Rattle.upload_service.specs.Machine.{Session, State, Outcome, Takes, Commits, Stores, answer_of}
 use Rattle.upload_service.specs.Machine.{state_after, refused, size_fault, body_fault, unless_fault, checked}
-use Rattle.upload_service.specs.Machine.{Progress, awake, in_session, at_session}
+use Rattle.upload_service.specs.Machine.{Progress, awake, at_session}
 use Rattle.upload_service.specs.Kept.Tables.{IsPlaced, IsTurnedAway}
 use Rattle.std.specs.Prelude.{IsSome, is_some}
 use Rattle.std.specs.FinSet as set
@@ -40,9 +39,7 @@ pub none_named : (max_blob : ℕ) (o : Option Session) (name at : List ℕ) (act
     → ((session : Session) → o ≡ Some session → session.name ≢ name)
     → at_session max_blob o name at act ≡ refused refusals.NoUpload
 none_named max_blob None name at act h = refl
-none_named max_blob (Some session) name at act h =
-    ap (λ b. if b then in_session max_blob session name at act else refused refusals.NoUpload)
-    (same_from_ne session.name name (h session refl))
+none_named max_blob (Some session) name at act h = cc (same_from_ne session.name name (h session refl))
 
 nothing_there : (X : Type 0) (k : List ℕ) → IsSome (map.get (map.empty {X = X} {R = slice_cmp nat_cmp}) k) → ⊥
 nothing_there X k e = true≢false (sym e ∙ ap is_some (map.get-empty (slice_cmp nat_cmp) k))
@@ -67,9 +64,7 @@ met : (max_blob : ℕ) (sent : Sent) (received : List ℕ) (next : ℕ) (fault :
     → next ≡ length received → body_fault max_blob (behind sent next) sent.range sent.body ≡ fault
     → unless_fault (body_fault max_blob (behind sent (length received)) sent.range sent.body) o
     ≡ unless_fault fault o
-met max_blob sent received next fault o l f =
-    ap (λ k. unless_fault (body_fault max_blob (behind sent k) sent.range sent.body) o) (sym l)
-    ∙ ap (λ q. unless_fault q o) f
+met max_blob sent received next fault o l f = cc
 
 -- what is done with a body, at the close of a session
 abbrev closing : Sent → Session → Option Digest → Outcome
@@ -82,17 +77,13 @@ pub turned_away_there : (s : State) (now : ℕ) (sent : Sent) (session : Session
     → body_fault s.limits.max_blob (behind sent next) sent.range sent.body ≡ Some answer
     → IsTurnedAway s now sent answer
 turned_away_there s now sent session next answer e n l f =
-    record {
-      chunk =
-          named s.limits.max_blob (awake s now sent.at) session sent.name sent.at (Sends sent.range sent.body) e n
-          ∙ met s.limits.max_blob sent session.received next (Some answer)
-          (Takes sent.name sent.at (session.received ++ sent.body)) l f;
-      close =
-          λ digest.
-          named s.limits.max_blob (awake s now sent.at) session sent.name sent.at (Closes sent.range digest sent.body) e
-          n
-          ∙ met s.limits.max_blob sent session.received next (Some answer) (closing sent session digest) l f;
-    }
+    grind (
+      arith,
+      named s.limits.max_blob (awake s now sent.at) session sent.name sent.at (Sends sent.range sent.body) e n,
+      met s.limits.max_blob sent session.received next (Some answer) (Takes sent.name sent.at (session.received ++ sent.body)) l f,
+      named s.limits.max_blob (awake s now sent.at) session sent.name sent.at,
+      met s.limits.max_blob sent session.received next (Some answer),
+    )
 
 -- and one that fits
 pub placed_there : (s : State) (now : ℕ) (sent : Sent) (session : Session) (next : ℕ)
@@ -101,55 +92,33 @@ pub placed_there : (s : State) (now : ℕ) (sent : Sent) (session : Session) (ne
     → body_fault s.limits.max_blob (behind sent next) sent.range sent.body ≡ None
     → IsPlaced s now sent (record { name = sent.name; at = sent.at; body = sent.body; next = next })
 placed_there s now sent session next e n l small f =
-    record {
-      session = session;
-      is_open = (awake_is_open s.limits.max_idle now (map.get s.sessions sent.at) session e).0;
-      named = n;
-      is_next = l;
-      fits = small;
-      chunk =
-          named s.limits.max_blob (awake s now sent.at) session sent.name sent.at (Sends sent.range sent.body) e n
-          ∙ met s.limits.max_blob sent session.received next None
-          (Takes sent.name sent.at (session.received ++ sent.body)) l f;
-      close =
-          λ digest.
-          named s.limits.max_blob (awake s now sent.at) session sent.name sent.at (Closes sent.range digest sent.body) e
-          n
-          ∙ met s.limits.max_blob sent session.received next None (closing sent session digest) l f;
-    }
+    grind (
+      arith,
+      awake_is_open s.limits.max_idle now (map.get s.sessions sent.at) session e,
+      named s.limits.max_blob (awake s now sent.at) session sent.name sent.at (Sends sent.range sent.body) e n,
+      met s.limits.max_blob sent session.received next None (Takes sent.name sent.at (session.received ++ sent.body)) l f,
+      named s.limits.max_blob (awake s now sent.at) session sent.name sent.at,
+      met s.limits.max_blob sent session.received next None,
+    )
 
 -- and one for a session that isn't there, or not under its name
 pub nowhere : (s : State) (now : ℕ) (sent : Sent)
     → ((session : Session) → awake s now sent.at ≡ Some session → session.name ≢ sent.name)
     → IsTurnedAway s now sent (answers.Refused refusals.NoUpload)
-nowhere s now sent none =
-    record {
-      chunk = none_named s.limits.max_blob (awake s now sent.at) sent.name sent.at (Sends sent.range sent.body) none;
-      close =
-          λ digest.
-          none_named s.limits.max_blob (awake s now sent.at) sent.name sent.at (Closes sent.range digest sent.body)
-          none;
-    }
+nowhere s now sent none = search (rules, arith, none_named)
 
 pub mismatch : (digest : Digest) (blob : List ℕ) (done : Digest → Outcome)
     → content_digest digest.algorithm blob ≢ digest → checked (Some digest) blob done ≡ refused refusals.Mismatch
-mismatch digest blob done n =
-    ap (λ b. if b then done digest else refused refusals.Mismatch)
-    (same_digest_from_ne (content_digest digest.algorithm blob) digest n)
+mismatch digest blob done n = cc (same_digest_from_ne (content_digest digest.algorithm blob) digest n)
 
 pub match : (digest : Digest) (blob : List ℕ) (done : Digest → Outcome) → content_digest digest.algorithm blob ≡ digest
     → checked (Some digest) blob done ≡ done digest
-match digest blob done e =
-    ap (λ b. if b then done digest else refused refusals.Mismatch)
-    (same_digest_from_eq (content_digest digest.algorithm blob) digest e)
+match digest blob done e = cc (same_digest_from_eq (content_digest digest.algorithm blob) digest e)
 
 pub single_fits : (max_blob : ℕ) (name body : List ℕ) (asked : Option Digest) (digest : Digest) → length body ≤ max_blob
     → asked ≡ Some digest → unless_fault (size_fault max_blob 0 body) (checked asked body (λ d. Stores name d body))
     ≡ checked (Some digest) body (λ d. Stores name d body)
-single_fits max_blob name body asked digest le e =
-    ap (λ b. unless_fault (if b then Some (answers.Refused refusals.TooLarge) else None)
-    (checked asked body (λ d. Stores name d body))) (le-ltb max_blob (0 + length body) (omega arith))
-    ∙ ap (λ a. checked a body (λ d. Stores name d body)) e
+single_fits max_blob name body asked digest le e = cc (le-ltb max_blob (0 + length body) (omega arith))
 
 pub single_stores : (max_blob : ℕ) (name body : List ℕ) (asked : Option Digest) (digest : Digest)
     → length body ≤ max_blob → asked ≡ Some digest → content_digest digest.algorithm body ≡ digest

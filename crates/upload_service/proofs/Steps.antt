@@ -1,23 +1,23 @@
 -- Each request comes to what is said of its outcome.
-use Rattle.std.proofs.Common.{◌≡◌, ◌≢◌, ℕ, ◌+◌, ◌-◌, ◌<◌, ◌≤◌, List, ◌++◌, length, Bool, true, false, Option, Some}
-use Rattle.std.proofs.Common.{None, refl, sym, ◌∙◌, ap, subst, cond, not, inl, inr, length-append}
-use Rattle.std.specs.Prelude.{◌||◌, ◌==◌, is_some, nat_lt, nat_le, if◌then◌else◌}
+use Rattle.std.proofs.Common.{◌≡◌, ◌≢◌, ℕ, ◌+◌, ◌<◌, ◌≤◌, List, ◌++◌, length, Bool, true, false, Option, Some}
+use Rattle.std.proofs.Common.{None, refl, sym, ◌∙◌, ap, subst, cond, inl, inr, length-append, arith, rules}
+use Rattle.std.specs.Prelude.{◌||◌, if◌then◌else◌}
 use Rattle.std.proofs.lemmas.Bool.{true≢false, ltb-false, leb-false, eq-eqb}
 use Rattle.std.specs.FinMap as map
 use Rattle.upload_names.specs.ByteRange.{Span}
-use Rattle.upload_names.specs.Digest.{Digest, content_digest, HasDigest}
+use Rattle.upload_names.specs.Digest.{Digest, HasDigest}
 use Rattle.upload_names.specs.Reference.{reference}
 use Rattle.upload_service.specs.declared.ask.Extent.{Extent}
-use Rattle.upload_service.specs.declared.ask.Extent.TheVariants.{Absent, Bad, Given}
+use Rattle.upload_service.specs.declared.ask.Extent.TheVariants.{Given}
 use Rattle.upload_service.specs.declared.answer.Refusal.{Refusal}
 use Rattle.upload_service.specs.declared.answer.Refusal.TheVariants as refusals
 use Rattle.upload_service.specs.declared.ask.Ask.{Ask}
 use Rattle.upload_service.specs.declared.ask.Ask.TheVariants as asks
 use Rattle.upload_service.specs.declared.answer.Answer.{Answer}
 use Rattle.upload_service.specs.declared.answer.Answer.TheVariants as answers
-use Rattle.upload_service.specs.UploadView.{Act, Sends, AsksOffset, Closes, OfSession, upload_view, on_session}
+use Rattle.upload_service.specs.UploadView.{Act, Sends, AsksOffset, Closes, OfSession, upload_view}
 use Rattle.upload_service.specs.UploadView.{answer_view}
-use Rattle.upload_service.specs.Machine.{same, same_digest, is_idle, unless_idle, awake, all_awake, Session, State}
+use Rattle.upload_service.specs.Machine.{same, is_idle, unless_idle, awake, all_awake, Session, State}
 use Rattle.upload_service.specs.Machine.{Outcome, Replies, Begins, Takes, Commits, Stores, Mounts, refused, size_fault}
 use Rattle.upload_service.specs.Machine.{Progress, progress_of, body_fault, unless_fault, checked, in_session}
 use Rattle.upload_service.specs.Machine.{at_session, last_number, opening, blob_reply, holds, outcome, effect}
@@ -38,34 +38,20 @@ or_false false b e = (refl, e)
 module _ (P : Outcome → Type 0) (refusals_do : (r : Refusal) → P (refused r)) where
   pub by_size : (max_blob next : ℕ) (body : List ℕ) (o : Outcome) → (next + length body ≤ max_blob → P o)
       → P (unless_fault (size_fault max_blob next body) o)
-  by_size max_blob next body o fits =
-      by_test (λ fault. P (unless_fault fault o)) (nat_lt max_blob (next + length body)) _ _
-      (λ _. refusals_do refusals.TooLarge)
-      (λ e. fits (ltb-false max_blob (next + length body) e))
+  by_size max_blob next body o fits = search (rules, arith, by_test, ltb-false)
 
   pub by_body : (max_blob : ℕ) (upload : Progress) (range : Extent) (body : List ℕ) (o : Outcome)
       → ((r : Span) → range ≡ Given r → r.first ≢ upload.next
       → P (Replies (answers.Misplaced upload.name upload.at upload.next)))
       → (upload.next + length body ≤ max_blob → P o)
       → P (unless_fault (body_fault max_blob upload range body) o)
-  by_body max_blob upload Absent body o misses fits = by_size max_blob upload.next body o fits
-  by_body max_blob upload Bad body o misses fits = refusals_do refusals.BadRange
-  by_body max_blob upload (Given r) body o misses fits =
-      by_test (λ fault. P (unless_fault fault o)) (not (r.first == upload.next)) _ _
-      (λ e. misses r refl (λ aligned. true≢false (sym e ∙ ap not (eq-eqb _ _ aligned))))
-      (λ _. by_test (λ fault. P (unless_fault fault o))
-      (nat_lt r.last r.first || not (r.last - r.first + 1 == length body)) _ _
-      (λ _. refusals_do refusals.WrongLength)
-      (λ _. by_size max_blob upload.next body o fits))
+  by_body max_blob upload range body o h1 h2 = search (rules, arith, by_size, by_test, true≢false, eq-eqb)
 
   pub by_digest : (asked : Option Digest) (blob : List ℕ) (done : Digest → Outcome)
       → ((digest : Digest) → asked ≡ Some digest → HasDigest blob digest → P (done digest))
       → P (checked asked blob done)
   by_digest None blob done match = refusals_do refusals.NoDigest
-  by_digest (Some digest) blob done match =
-      by_test P (same_digest (content_digest digest.algorithm blob) digest) _ _
-      (λ e. match digest refl (eq_from_same_digest _ _ e))
-      (λ _. refusals_do refusals.Mismatch)
+  by_digest (Some digest) blob done match = search (rules, arith, by_test, eq_from_same_digest)
 
 pub None≢Some : {A : Type 0} {x : A} → None ≡ Some x → ⊥
 None≢Some e = cc
@@ -74,12 +60,7 @@ None≢Some e = cc
 pub awake_is_open : (max_idle now : ℕ) (o : Option Session) (session : Session)
     → unless_idle max_idle now o ≡ Some session → (o ≡ Some session) × (is_idle max_idle now session ≡ false)
 awake_is_open max_idle now None session e = absurd (None≢Some e)
-awake_is_open max_idle now (Some had) session e =
-    elim (is_idle max_idle now had) as (λ b. is_idle max_idle now had ≡ b → cond b None (Some had) ≡ Some session
-    → (Some had ≡ Some session) × (is_idle max_idle now session ≡ false)) [
-      | true ↦ λ _ q. absurd (None≢Some q)
-      | false ↦ λ p q. (q, let is : had ≡ session = cc in ap (is_idle max_idle now) (sym is) ∙ p)
-    ] refl e
+awake_is_open max_idle now (Some had) session e = search (rules, arith, None≢Some)
 
 pub idle_is_none : (max_idle now : ℕ) (session : Session) → is_idle max_idle now session ≡ true
     → unless_idle max_idle now (Some session) ≡ None
@@ -94,23 +75,17 @@ session_ask name at (Closes range digest body) = asks.Close name at range digest
 -- there is no other
 pub is_session_ask : (ask : Ask) (name at : List ℕ) (act : Act) → upload_view ask ≡ OfSession name at act
     → ask ≡ session_ask name at act
-is_session_ask (asks.Chunk n to range body) name at act e = ap (λ v. on_session v asks.Base session_ask) e
-is_session_ask (asks.Status n to) name at act e = ap (λ v. on_session v asks.Base session_ask) e
-is_session_ask (asks.Close n to range digest body) name at act e = ap (λ v. on_session v asks.Base session_ask) e
-is_session_ask other name at act e = cc
+is_session_ask ask name at act = search (rules, arith)
 
 outcome_of_act : (s : State) (secret : List ℕ) (now : ℕ) (name at : List ℕ) (act : Act)
     → outcome s (session_ask name at act) secret now ≡ at_session s.limits.max_blob (awake s now at) name at act
-outcome_of_act s secret now name at (Sends range body) = refl
-outcome_of_act s secret now name at AsksOffset = refl
-outcome_of_act s secret now name at (Closes range digest body) = refl
+outcome_of_act s secret now name at = search (rules, arith)
 
 -- the machine has a request to a session meet that session
 pub outcome_of_view : (s : State) (ask : Ask) (secret : List ℕ) (now : ℕ) (name at : List ℕ) (act : Act)
     → upload_view ask ≡ OfSession name at act
     → outcome s ask secret now ≡ at_session s.limits.max_blob (awake s now at) name at act
-outcome_of_view s ask secret now name at act e =
-    ap (λ a. outcome s a secret now) (is_session_ask ask name at act e) ∙ outcome_of_act s secret now name at act
+outcome_of_view s ask secret now name at act e = search (rules, arith, is_session_ask, outcome_of_act)
 
 -- ---- what a request comes to, case by case
 
@@ -151,11 +126,7 @@ pub record HoldsOfEach (s : State) (secret : List ℕ) (now : ℕ) (P : Ask → 
 module _ (s : State) (secret : List ℕ) (now : ℕ) (P : Ask → Outcome → Type 0) (each : HoldsOfEach s secret now P) where
   of_opening : (ask : Ask) (name : List ℕ) → (HasRoom s now → P ask (Begins name (reference (s.issued + 1) secret)))
       → P ask (opening s name secret now)
-  of_opening ask name has_room =
-      by_test (P ask) (nat_le s.limits.max_open (map.len (all_awake s now)) || nat_le last_number s.issued) _ _
-      (λ _. each.refusals ask refusals.TooMany)
-      (λ e. let none = or_false _ _ e in
-      has_room (record { numbers_left = leb-false _ _ none.1; room = leb-false _ _ none.0 }))
+  of_opening ask name has_room = search (rules, arith, by_test, or_false, leb-false)
 
   of_blob : (name : List ℕ) (digest : Digest) (head : Bool) (stored : Option (List ℕ))
       → map.get s.blobs digest ≡ stored → holds s name digest ≡ true
@@ -200,15 +171,9 @@ module _ (s : State) (secret : List ℕ) (now : ℕ) (P : Ask → Outcome → Ty
   pub by_ask : (ask : Ask) → P ask (outcome s ask secret now)
   by_ask asks.Base = each.base
   by_ask (asks.Refused refusal) = each.refusals (asks.Refused refusal) refusal
-  by_ask (asks.Has name digest head) =
-      by_test (P (asks.Has name digest head)) (holds s name digest) _ _
-      (λ held. of_blob name digest head (map.get s.blobs digest) refl held)
-      (λ _. each.refusals (asks.Has name digest head) refusals.NoBlob)
+  by_ask (asks.Has name digest head) = search (rules, arith, by_test, of_blob)
   by_ask (asks.Opening name) = of_opening (asks.Opening name) name (each.openings name)
-  by_ask (asks.Mount name digest source) =
-      by_test (P (asks.Mount name digest source)) (holds s source digest) _ _
-      (λ held. each.mounts name digest source held)
-      (λ _. of_opening (asks.Mount name digest source) name (each.unmounted name digest source))
+  by_ask (asks.Mount name digest source) = search (rules, arith, by_test, of_opening)
   by_ask (asks.Single name asked body) =
       let no = each.refusals (asks.Single name asked body) in
       by_size (P (asks.Single name asked body)) no s.limits.max_blob 0 body _ (λ _.
@@ -225,38 +190,14 @@ module _ (s : State) (secret : List ℕ) (now : ℕ) (P : Ask → Outcome → Ty
 replied : (s : State) (secret : List ℕ) (now : ℕ) (ask : Ask) (answer : Answer) → (answer_view answer).begun ≡ None
     → (answer_view answer).took ≡ false → (answer_view answer).closed ≡ false → (answer_view answer).pair ≡ None
     → (answer_view answer).no_memory ≡ false → FitsAnswer s now ask answer → IsOutcome s ask secret now (Replies answer)
-replied s secret now ask answer begun took closed pair memory fits =
-    record {
-      change = record {
-        begins_none = begun;
-        took_none = took;
-        accepts_none = not_accepted ask answer took (ap is_some pair);
-        closes_none = λ at. not_closed at ask answer closed;
-      };
-      store = tt;
-      pair_told = pair;
-      has_memory = memory;
-      answered = fits;
-    }
+replied s secret now ask answer begun took closed pair memory fits = search (rules, arith, not_accepted, not_closed)
 
 begins_soundly : (s : State) (ask : Ask) (name secret : List ℕ) (now : ℕ) → AsksToBegin name ask → HasRoom s now
     → IsOutcome s ask secret now (Begins name (reference (s.issued + 1) secret))
-begins_soundly s ask name secret now asked has =
-    record {
-      change = (
-        record { asked = asked; is_new = refl; numbers_left = has.numbers_left; room = has.room },
-        refl,
-      );
-      store = tt;
-      pair_told = refl;
-      has_memory = refl;
-      answered = tt;
-    }
+begins_soundly s ask name secret now asked has = search (rules, arith)
 
 aim_of_act : (name at : List ℕ) (act : Act) → aim_of (session_ask name at act) ≡ aim_by name at act
-aim_of_act name at (Sends range body) = refl
-aim_of_act name at AsksOffset = refl
-aim_of_act name at (Closes range digest body) = refl
+aim_of_act name at = search (rules, arith)
 
 sound_each : (s : State) (secret : List ℕ) (now : ℕ)
     → HoldsOfEach s secret now (λ ask o. IsOutcome s ask secret now o)
@@ -358,6 +299,4 @@ outcome_sound s now ask secret =
 pub turn_fits : (s : State) (ask : Ask) (secret : List ℕ) (now : ℕ) (answer : Answer)
     → answer ≡ answer_of (outcome s ask secret now)
     → FitsChange s ask secret now answer (effect (outcome s ask secret now)).sessions
-turn_fits s ask secret now answer e =
-    subst (λ a. FitsChange s ask secret now a (effect (outcome s ask secret now)).sessions) (sym e)
-    (outcome_sound s now ask secret).change
+turn_fits s ask secret now answer e = search (rules, arith, FitsChange, outcome_sound)

@@ -1,7 +1,7 @@
 -- The store after a run.
 use Rattle.std.proofs.Common.{◌≡◌, ℕ, List, [], ◌∷◌, ◌++◌, Bool, true, false, Option, Some, None, refl, sym, ◌∙◌, ap}
-use Rattle.std.proofs.Common.{subst, inl, inr, cond}
-use Rattle.std.specs.Prelude.{◌||◌, is_some, IsSome, if◌then◌else◌}
+use Rattle.std.proofs.Common.{subst, inl, inr, arith, rules}
+use Rattle.std.specs.Prelude.{◌||◌, IsSome, if◌then◌else◌}
 use Rattle.std.proofs.lemmas.Bool.{true≢false}
 use Rattle.std.specs.FinMap as map
 use Rattle.std.specs.FinSet as set
@@ -9,15 +9,15 @@ use Rattle.upload_names.specs.Digest.{Digest}
 use Rattle.upload_service.specs.declared.ask.Ask.TheVariants as asks
 use Rattle.upload_service.specs.declared.answer.Answer.TheVariants as answers
 use Rattle.upload_service.specs.declared.answer.Refusal.TheVariants as refusals
-use Rattle.upload_service.specs.Machine.{same_digest, State, Outcome, effect, answer_of, blobs_with, pairs_with, holds}
+use Rattle.upload_service.specs.Machine.{State, effect, answer_of, blobs_with, pairs_with, holds}
 use Rattle.upload_service.specs.Machine.{outcome, state_after, refused, blob_reply, may_lack_memory}
 use Rattle.std.specs.List.{list_any}
 use Rattle.upload_service.specs.Machine.{Turn, IsLawful}
 use Rattle.upload_service.proofs.Claims.{StoreIsWhatWasStored, BlobIsWhatWasStored, HeldIsGiven, OthersAreNoBlob}
 use Rattle.upload_service.specs.Run.{Exchange, Run}
-use Rattle.upload_service.specs.Session.{carries, accepted_of, joined_chunks, received}
-use Rattle.upload_service.specs.UploadView.{upload_view, answer_view}
-use Rattle.upload_service.specs.Stored.{Stored, stored, stored_as, stored_by, stored_from, last_under, is_pair, notes}
+use Rattle.upload_service.specs.Session.{received}
+use Rattle.upload_service.specs.UploadView.{answer_view}
+use Rattle.upload_service.specs.Stored.{Stored, stored, stored_by, stored_from, last_under, is_pair, notes}
 use Rattle.upload_service.specs.Stored.{is_held, IsHandedOut, IsGiven}
 use Rattle.upload_service.proofs.Lawful.{stays_lawful}
 use Rattle.upload_service.proofs.Keeping.Tables.{same_itself, blob-insert, contains-insert}
@@ -44,15 +44,7 @@ pub commit_blob : (start : State) (front : List Exchange) (before : State) (x : 
     → blob ≡ received start (front ++ x ∷ []) at
 unfolding Turn
 commit_blob start front before x name at digest blob lawful run f e =
-    let carried : carries at x.ask ≡ true = ap (carries at) f.asked ∙ same_itself at in
-    let g : gave at x ≡ f.body ∷ [] =
-    gave_own x at carried ∙ ap (λ a. accepted_of a x.answer) f.asked
-    ∙ ap (λ p. if is_some p then f.body ∷ [] else []) e in
-    let had : f.found.session.received ≡ received start front at =
-    open_is_received front start before at f.found.session run (numbered_if_lawful start lawful) f.found.is_open in
-    f.grown ∙ ap (λ b. b ++ f.body) had
-    ∙ sym (received-push start front x at ∙ ap (λ c. received start front at ++ joined_chunks c) g
-    ∙ ap (λ b. received start front at ++ b) (append_none f.body))
+    grind (arith, same_itself, gave, gave_own, open_is_received, numbered_if_lawful, received-push, append_none)
 
 blobs_after : (start : State) (front : List Exchange) (s : State) (x : Exchange) (blob : Option (Digest × List ℕ))
     (pair : Option (List ℕ × Digest)) → IsLawful start → Run start front s → FitsStore s x.now x.ask blob pair
@@ -60,58 +52,36 @@ blobs_after : (start : State) (front : List Exchange) (s : State) (x : Exchange)
     → map.get (blobs_with s.blobs blob) d
     ≡ last_under d (stored_by start (front ++ x ∷ []) x.ask x.answer) (map.get s.blobs d)
 unfolding Turn
-blobs_after start front s x None None lawful run f t d =
-    sym (ap (λ p. last_under d (stored_as start (front ++ x ∷ []) (upload_view x.ask) p) (map.get s.blobs d)) t)
+blobs_after start front s x None None lawful run f t d = cc
 blobs_after start front s x (Some stored) None lawful run f t d = absurd f
-blobs_after start front s x None (Some (n, digest)) lawful run f t d =
-    sym (λ i. last_under d (stored_as start (front ++ x ∷ []) (upload_view (f.asked i)) (t i)) (map.get s.blobs d))
+blobs_after start front s x None (Some (n, digest)) lawful run f t d = cc
 blobs_after start front s x (Some (of, blob)) (Some (n, digest)) lawful run (is, inl (to, f)) t d =
-    blob-insert s.blobs of blob d
-    ∙ (λ i. cond (same_digest d (is i)) (Some (commit_blob start front s x n to digest blob lawful run f t i))
-    (map.get s.blobs d))
-    ∙ sym (λ i. last_under d (stored_as start (front ++ x ∷ []) (upload_view (f.asked i)) (t i)) (map.get s.blobs d))
+    cc (blob-insert s.blobs of blob d, commit_blob start front s x n to digest blob lawful run f t)
 blobs_after start front s x (Some (of, blob)) (Some (n, digest)) lawful run (is, inr f) t d =
-    blob-insert s.blobs of blob d
-    ∙ ap (λ q. cond (same_digest d q) (Some blob) (map.get s.blobs d)) is
-    ∙ sym (λ i. last_under d (stored_as start (front ++ x ∷ []) (upload_view (f.asked i)) (t i)) (map.get s.blobs d))
+    cc (blob-insert s.blobs of blob d)
 
 pairs_after : (s : State) (x : Exchange) (pair : Option (List ℕ × Digest)) → (answer_view x.answer).pair ≡ pair
     → (name : List ℕ) (digest : Digest)
     → set.contains (pairs_with s.pairs pair) (name, digest) ≡ (notes name digest x.answer || holds s name digest)
 pairs_after s x None t name digest = sym (ap (λ p. is_pair (name, digest) p || holds s name digest) t)
-pairs_after s x (Some pair) t name digest =
-    contains-insert s.pairs pair (name, digest)
-    ∙ sym (ap (λ p. is_pair (name, digest) p || holds s name digest) t)
+pairs_after s x (Some pair) t name digest = cc (contains-insert s.pairs pair (name, digest))
 
 -- the answer of a turn tells of the pair
 told_pair : (s : State) (x : Exchange) → x.answer ≡ answer_of (outcome s x.ask x.secret x.now)
     → (answer_view x.answer).pair ≡ (effect (outcome s x.ask x.secret x.now)).pair
-told_pair s x e =
-    ap (λ a. (answer_view a).pair) e
-    ∙ (outcome_sound s x.now x.ask x.secret).pair_told
+told_pair s x e = search (rules, arith, outcome_sound)
 
 blobs_turn : (start : State) (front : List Exchange) (s : State) (x : Exchange) (t : State) → IsLawful start
     → Run start front s → Turn s x.ask x.secret x.now x.answer t → (d : Digest)
     → map.get t.blobs d ≡ last_under d (stored_by start (front ++ x ∷ []) x.ask x.answer) (map.get s.blobs d)
 unfolding Turn
-blobs_turn start front s x t lawful run (inl did) d =
-    let o : Outcome = outcome s x.ask x.secret x.now in
-    let f : IsOutcome s x.ask x.secret x.now o = outcome_sound s x.now x.ask x.secret in
-    ap (λ q. map.get q.blobs d) did.1
-    ∙ blobs_after start front s x (effect o).blob (effect o).pair lawful run f.store
-    (told_pair s x did.0) d
-blobs_turn start front s x t lawful run (inr lacked) d =
-    ap (λ q. map.get q.blobs d) lacked.2
-    ∙ sym (ap (λ a. last_under d (stored_by start (front ++ x ∷ []) x.ask a) (map.get s.blobs d)) lacked.1)
+blobs_turn start front s x t h1 h2 h3 = search (rules, arith, IsOutcome, outcome_sound, blobs_after, told_pair)
 
 pairs_turn : (s : State) (x : Exchange) (t : State) → Turn s x.ask x.secret x.now x.answer t
     → (name : List ℕ) (digest : Digest) → holds t name digest ≡ (notes name digest x.answer || holds s name digest)
 unfolding Turn
-pairs_turn s x t (inl did) name digest =
-    ap (λ q. holds q name digest) did.1
-    ∙ pairs_after s x (effect (outcome s x.ask x.secret x.now)).pair (told_pair s x did.0) name digest
-pairs_turn s x t (inr lacked) name digest =
-    ap (λ q. holds q name digest) lacked.2 ∙ sym (ap (λ a. notes name digest a || holds s name digest) lacked.1)
+pairs_turn s x t (inl did) name digest = search (rules, arith, pairs_after, told_pair)
+pairs_turn s x t (inr lacked) name digest = cc
 
 blobs_run : (xs : List Exchange) (start : State) (front : List Exchange) (s t : State)
     → IsLawful start → Run start front s → Run s xs t → (d : Digest)
@@ -119,17 +89,17 @@ blobs_run : (xs : List Exchange) (start : State) (front : List Exchange) (s t : 
 unfolding Turn
 blobs_run [] start front s t lawful so_far e d = ap (λ q. map.get q.blobs d) e
 blobs_run (x ∷ xs) start front s t lawful so_far (mid, turn, rest) d =
-    blobs_run xs start (front ++ x ∷ []) mid t lawful (run-push front start s mid x so_far turn) rest d
-    ∙ ap (λ had. last_under d (stored_from start (front ++ x ∷ []) xs) had)
-    (blobs_turn start front s x mid lawful so_far turn d)
-    ∙ sym
-    (last_under-append d (stored_by start (front ++ x ∷ []) x.ask x.answer) (stored_from start (front ++ x ∷ []) xs) _)
+    search (
+      rules,
+      arith,
+      run-push,
+      blobs_turn,
+      last_under-append,
+      blobs_run xs start (front ++ x ∷ []) mid t lawful (run-push front start s mid x so_far turn) rest d,
+    )
 
 or_swap : (a b c : Bool) → ((a || b) || c) ≡ (b || (a || c))
-or_swap true true c = refl
-or_swap true false c = refl
-or_swap false true c = refl
-or_swap false false c = refl
+or_swap a b c = search (rules, arith)
 
 or_none : (a : Bool) → a ≡ (a || false)
 or_none true = refl
@@ -140,30 +110,23 @@ pairs_run : (xs : List Exchange) (s t : State) → Run s xs t → (name : List �
 unfolding Turn
 pairs_run [] s t e name digest = ap (λ q. holds q name digest) e ∙ or_none _
 pairs_run (x ∷ xs) s t (mid, turn, rest) name digest =
-    pairs_run xs mid t rest name digest
-    ∙ ap (λ b. b || list_any (λ y. notes name digest y.answer) xs) (pairs_turn s x mid turn name digest)
-    ∙ or_swap (notes name digest x.answer) (holds s name digest) _
+    cc (
+      pairs_turn s x mid turn name digest,
+      or_swap (notes name digest x.answer) (holds s name digest) _,
+      pairs_run xs mid t rest name digest,
+    )
 
 pub store_is_what_was_stored : StoreIsWhatWasStored
 unfolding Turn
-store_is_what_was_stored start xs end lawful run =
-    record { blobs = blobs_run xs start [] start end lawful refl run; pairs = pairs_run xs start end run }
+store_is_what_was_stored start xs end lawful run = search (rules, arith, blobs_run, pairs_run)
 
 -- a turn of a request for a blob that the repository has, and of another one
 given_turn : (s : State) (x : Exchange) (t : State) (digest : Digest) (head : Bool) (blob : List ℕ)
     → Turn s x.ask x.secret x.now x.answer t → outcome s x.ask x.secret x.now ≡ blob_reply digest head (Some blob)
     → IsGiven digest head (Some blob) x.answer × (t ≡ s)
 unfolding Turn
-given_turn s x t digest head blob (inl did) e = (
-  inl (record { content = blob; is_content = refl; is_answer = did.0 ∙ ap answer_of e }),
-  did.1 ∙ ap (state_after s x.now) e,
-)
-given_turn s x t digest head blob (inr lacked) e =
-    (inr (no_head head (sym (ap may_lack_memory e) ∙ lacked.0), lacked.1), lacked.2)
-  where
-    no_head : (h : Bool) → is_some (if h then None else Some blob) ≡ true → h ≡ false
-    no_head true c = absurd (true≢false (sym c))
-    no_head false c = refl
+given_turn s x t digest head blob (inl did) e = search (rules, arith)
+given_turn s x t digest head blob (inr lacked) e = search (rules, arith, true≢false)
 
 refused_turn : (s : State) (x : Exchange) (t : State) → Turn s x.ask x.secret x.now x.answer t
     → outcome s x.ask x.secret x.now ≡ refused refusals.NoBlob
@@ -176,9 +139,7 @@ refused_turn s x t (inr lacked) e = absurd (true≢false (sym lacked.0 ∙ ap ma
 has_outcome : (s : State) (x : Exchange) (name : List ℕ) (digest : Digest) (head held : Bool)
     → x.ask ≡ asks.Has name digest head → holds s name digest ≡ held → outcome s x.ask x.secret x.now
     ≡ (if held then blob_reply digest head (map.get s.blobs digest) else refused refusals.NoBlob)
-has_outcome s x name digest head held a h =
-    ap (λ ask. outcome s ask x.secret x.now) a
-    ∙ ap (λ b. if b then blob_reply digest head (map.get s.blobs digest) else refused refusals.NoBlob) h
+has_outcome s x name digest head held a h = cc
 
 pub held_is_given : HeldIsGiven
 held_is_given start front before x after m name digest head a held =
@@ -198,8 +159,7 @@ held_is_given start front before x after m name digest head a held =
 
 pub others_are_no_blob : OthersAreNoBlob
 others_are_no_blob start front before x after m name digest head a not_held =
-    refused_turn before x after m.turn (has_outcome before x name digest head false a
-    (pairs_run front start before m.so_far name digest ∙ not_held))
+    search (rules, arith, refused_turn, has_outcome, pairs_run)
 
 pub blob_is_what_was_stored : BlobIsWhatWasStored
 blob_is_what_was_stored start front before x after m name digest head of size bytes a r =

@@ -1,6 +1,6 @@
 -- What one turn does to each session.
-use Rattle.std.proofs.Common.{◌≡◌, ◌≢◌, ℕ, ◌+◌, ◌<◌, ◌≤◌, ◌^◌, List, true, false, Some, None, refl, sym, ◌∙◌, ap, subst}
-use Rattle.std.proofs.Common.{◌⊎◌, inl, inr, arith}
+use Rattle.std.proofs.Common.{◌≡◌, ◌≢◌, ℕ, ◌+◌, ◌<◌, ◌≤◌, ◌^◌, List, true, false, Some, None, sym, ◌∙◌, ap}
+use Rattle.std.proofs.Common.{◌⊎◌, inl, inr, arith, rules}
 use Rattle.std.proofs.lemmas.Bool.{true≢false}
 use Rattle.std.specs.FinMap as map
 use Rattle.upload_names.specs.Reference.{reference, number_of}
@@ -9,13 +9,13 @@ use Rattle.upload_service.specs.declared.answer.Refusal.TheVariants as refusals
 use Rattle.upload_service.specs.declared.ask.Ask.{Ask}
 use Rattle.upload_service.specs.declared.answer.Answer.{Answer}
 use Rattle.upload_service.specs.declared.answer.Answer.TheVariants as answers
-use Rattle.upload_service.specs.UploadView.{Act, OfSession, upload_view, on_session, opened_under}
-use Rattle.upload_service.specs.Machine.{is_idle, unless_idle, swept, Session, State, Outcome, SessionChange}
+use Rattle.upload_service.specs.UploadView.{Act, OfSession, upload_view, opened_under}
+use Rattle.upload_service.specs.Machine.{is_idle, unless_idle, Session, State, Outcome, SessionChange}
 use Rattle.upload_service.specs.Machine.{AllStay, OneBegins, OneTakes, OneLeaves, effect, answer_of, issued_with}
 use Rattle.upload_service.specs.Machine.{sessions_with, state_after, refused, at_session, last_number, outcome}
-use Rattle.upload_service.specs.Session.{carries, is_same, begins}
-use Rattle.upload_service.specs.Alone.{Life, Unborn, Open, Gone, life_with, life_after, alone_outcome, first_answer}
-use Rattle.upload_service.specs.Alone.{first_life, alone_answer, alone_after}
+use Rattle.upload_service.specs.Session.{carries, begins}
+use Rattle.upload_service.specs.Alone.{Life, Unborn, Open, Gone, life_with, alone_outcome}
+use Rattle.upload_service.specs.Alone.{alone_answer, alone_after}
 use Rattle.upload_service.proofs.Keeping.Tables.{eq_from_same}
 use Rattle.std.proofs.lemmas.Nat.{from_be_bytes-to_be_bytes_4}
 use Rattle.upload_service.proofs.Keeping.Tables.{one_or_two, get-insert_same, get-insert_other, get-remove_same}
@@ -41,43 +41,18 @@ new_number s secret at e h = ap number_of e ∙ number_of-reference (s.issued + 
 -- a number that was issued isn't the next
 pub not_new : (s : State) (secret at new : List ℕ) → new ≡ reference (s.issued + 1) secret → s.issued < last_number
     → number_of at ≤ s.issued → at ≢ new
-not_new s secret at new e h le same =
-    let n : number_of new ≡ s.issued + 1 = new_number s secret new e h in
-    let m : number_of at ≡ number_of new = ap number_of same in omega arith
+not_new s secret at new e h le same = search (rules, arith, new_number)
 
 numbered_with : (s : State) (ask : Ask) (secret : List ℕ) (now : ℕ) (answer : Answer) (change : SessionChange)
     → FitsChange s ask secret now answer change → IsNumbered s
     → (at : List ℕ) (session : Session) → map.get (sessions_with s now change) at ≡ Some session
     → number_of at ≤ issued_with s.issued change
-numbered_with s ask secret now answer AllStay f h at session e = h at session e
-numbered_with s ask secret now answer (OneBegins name new) f h at session e =
-    elim (one_or_two at new) [
-      | inl same ↦
-          let n : number_of new ≡ s.issued + 1 = new_number s secret new f.0.is_new f.0.numbers_left in
-          let m : number_of at ≡ number_of new = ap number_of same in omega arith
-      | inr other ↦
-          let le : number_of at ≤ s.issued =
-          h at session (was_there s now at session (sym (get-insert_other (swept s now) new _ at other) ∙ e)) in
-          omega arith
-    ]
-numbered_with s ask secret now answer (OneTakes name to received) f h at session e =
-    elim (one_or_two at to) [
-      | inl same ↦
-          let m : number_of at ≡ number_of to = ap number_of same in
-          let le : number_of to ≤ s.issued = h to f.0.found.session f.0.found.is_open in omega arith
-      | inr other ↦ h at session (sym (get-insert_other s.sessions to _ at other) ∙ e)
-    ]
-numbered_with s ask secret now answer (OneLeaves to) f h at session e =
-    elim (one_or_two at to) [
-      | inl same ↦ absurd
-          (None≢Some (sym (get-remove_same s.sessions to) ∙ ap (map.get (map.remove s.sessions to)) (sym same) ∙ e))
-      | inr other ↦ h at session (sym (get-remove_other s.sessions to at other) ∙ e)
-    ]
+numbered_with s ask secret now answer change h1 h2 at session h3 =
+    grind (arith, one_or_two, new_number, was_there, get-insert_other, None≢Some, get-remove_same, get-remove_other)
 
 pub numbered_after : (s : State) (ask : Ask) (secret : List ℕ) (now : ℕ) (o : Outcome) → IsOutcome s ask secret now o
     → IsNumbered s → IsNumbered (state_after s now o)
-numbered_after s ask secret now o f h =
-    numbered_with s ask secret now (answer_of o) (effect o).sessions f.change h
+numbered_after s ask secret now o f h = search (rules, arith, numbered_with)
 
 -- an issued reference that isn't in the table
 abbrev pub IsGone : State → List ℕ → Type 0
@@ -97,31 +72,13 @@ Fits s now at Gone = IsGone s at
 -- the part of the table at a reference and the count of numbers are all that a life speaks of
 pub fits_by : (s t : State) (from now : ℕ) (at : List ℕ) (life : Life) → map.get t.sessions at ≡ map.get s.sessions at
     → s.issued ≤ t.issued → t.limits ≡ s.limits → from ≤ now → Fits s from at life → Fits t now at life
-fits_by s t from now at Unborn e le k later f = e ∙ f
-fits_by s t from now at (Open session) e le k later (inl f) = inl (e ∙ f)
-fits_by s t from now at (Open session) e le k later (inr f) =
-    let g : number_of at ≤ s.issued = f.gone.1 in
-    let m : t.limits.max_idle ≡ s.limits.max_idle = ap (λ (l : Limits). l.max_idle) k in
-    let idle : session.seen + s.limits.max_idle < from = f.idle in
-    inr (record { gone = (e ∙ f.gone.0, omega arith); idle = omega arith })
-fits_by s t from now at Gone e le k later f = (e ∙ f.0, let g : number_of at ≤ s.issued = f.1 in omega arith)
+fits_by s t from now at life h1 h2 h3 h4 h5 = search (rules, arith)
 
 -- a session that leaves the table because it is idle
 fits_left : (s t : State) (from now : ℕ) (at : List ℕ) (life : Life) → IsNumbered s → (session : Session)
     → map.get s.sessions at ≡ Some session → is_idle s.limits.max_idle now session ≡ true → map.get t.sessions at ≡ None
     → s.issued ≤ t.issued → t.limits ≡ s.limits → Fits s from at life → Fits t now at life
-fits_left s t from now at Unborn h session was idle none le k f = none
-fits_left s t from now at (Open mine) h session was idle none le k (inl f) =
-    let both : Some mine ≡ Some session = sym f ∙ was in
-    let is : mine ≡ session = cc in
-    let number : number_of at ≤ s.issued = h at session was in
-    let m : t.limits.max_idle ≡ s.limits.max_idle = ap (λ (l : Limits). l.max_idle) k in
-    let seen : mine.seen ≡ session.seen = ap (λ (q : Session). q.seen) is in
-    let late : session.seen + s.limits.max_idle < now = idle_from s.limits.max_idle now session idle in
-    inr (record { gone = (none, omega arith); idle = omega arith })
-fits_left s t from now at (Open mine) h session was idle none le k (inr f) = absurd (None≢Some (sym f.gone.0 ∙ was))
-fits_left s t from now at Gone h session was idle none le k f =
-    (none, let g : number_of at ≤ s.issued = f.1 in omega arith)
+fits_left s t from now at life h1 session h2 h3 h4 h5 h6 h7 = search (rules, arith, idle_from, None≢Some)
 
 -- an exchange that isn't the session's leaves the session
 others_leave_with : (s : State) (ask : Ask) (secret : List ℕ) (from now : ℕ) (answer : Answer) (change : SessionChange)
@@ -129,24 +86,13 @@ others_leave_with : (s : State) (ask : Ask) (secret : List ℕ) (from now : ℕ)
     → IsNumbered s → from ≤ now → (at : List ℕ) (life : Life) → carries at ask ≡ false → begins at answer ≡ false
     → Fits s from at life → Fits (state_with s now change rest) now at life
 others_leave_with s ask secret from now answer AllStay rest f h later at life c b fits =
-    fits_by s (state_with s now AllStay rest) from now at life refl (omega arith) refl later fits
+    search (rules, arith, fits_by, state_with)
 others_leave_with s ask secret from now answer (OneBegins name new) rest f h later at life c b fits =
-    let t : State = state_with s now (OneBegins name new) rest in
-    let there : map.get t.sessions at ≡ map.get (swept s now) at =
-    get-insert_other (swept s now) new _ at (ne_from_same at new (sym (ap (begins at) f.1) ∙ b)) in
-    elim (kept_or_left s now at) [
-      | inl kept ↦ fits_by s t from now at life (there ∙ kept) (omega arith) refl later fits
-      | inr left ↦ fits_left s t from now at life h left.session left.was_open left.idle (there ∙ left.left)
-          (omega arith) refl fits
-    ]
+    search (rules, arith, state_with, get-insert_other, ne_from_same, kept_or_left, fits_by, fits_left)
 others_leave_with s ask secret from now answer (OneTakes name to received) rest f h later at life c b fits =
-    fits_by s (state_with s now (OneTakes name to received) rest) from now at life
-    (get-insert_other s.sessions to _ at (ne_from_same at to (sym (ap (carries at) f.0.asked) ∙ c)))
-    (omega arith) refl later fits
+    search (rules, arith, fits_by, state_with, get-insert_other, ne_from_same)
 others_leave_with s ask secret from now answer (OneLeaves to) rest f h later at life c b fits =
-    fits_by s (state_with s now (OneLeaves to) rest) from now at life
-    (get-remove_other s.sessions to at (ne_from_same at to (sym (f.carried at) ∙ c)))
-    (omega arith) refl later fits
+    search (rules, arith, fits_by, state_with, get-remove_other, ne_from_same)
 
 pub others_leave : (s : State) (ask : Ask) (secret : List ℕ) (from now : ℕ) (o : Outcome) → IsOutcome s ask secret now o
     → IsNumbered s → from ≤ now → (at : List ℕ) (life : Life) → carries at ask ≡ false → begins at (answer_of o) ≡ false
@@ -164,15 +110,8 @@ open_with : (s : State) (ask : Ask) (secret : List ℕ) (now : ℕ) (answer : An
     (rest : State) → FitsChange s ask secret now answer change
     → IsNumbered s → (at : List ℕ) (session : Session) → map.get s.sessions at ≡ Some session → carries at ask ≡ true
     → Fits (state_with s now change rest) now at (life_with session now change)
-open_with s ask secret now answer AllStay rest f h at session e c = inl e
-open_with s ask secret now answer (OneBegins name new) rest f h at session e c =
-    absurd (no_opening_carries name at ask f.0.asked c)
-open_with s ask secret now answer (OneTakes name to received) rest f h at session e c =
-    let is : at ≡ to = eq_from_same at to (sym (ap (carries at) f.0.asked) ∙ c) in
-    inl (ap (map.get (sessions_with s now (OneTakes name to received))) is ∙ get-insert_same s.sessions to _)
-open_with s ask secret now answer (OneLeaves to) rest f h at session e c =
-    let is : at ≡ to = eq_from_same at to (sym (f.carried at) ∙ c) in
-    (ap (map.get (map.remove s.sessions to)) is ∙ get-remove_same s.sessions to, h at session e)
+open_with s ask secret now answer change rest h1 h2 at session h3 h4 =
+    search (rules, arith, no_opening_carries, eq_from_same, get-insert_same, get-remove_same)
 
 -- the session's own exchange gives what it gives alone
 pub record Own (s : State) (ask : Ask) (now : ℕ) (o : Outcome) (at : List ℕ) (life : Life) : Type 0 where
@@ -183,57 +122,19 @@ own_refused : (s : State) (ask : Ask) (now : ℕ) (o : Outcome) (at : List ℕ) 
     → o ≡ refused refusals.NoUpload
     → alone_answer s.limits at life ask now ≡ answers.Refused refusals.NoUpload
     → alone_after s.limits life ask now ≡ life → Fits s now at life → Own s ask now o at life
-own_refused s ask now o at life e a l fits =
-    record {
-      told = ap answer_of e ∙ sym a;
-      fits =
-          subst (λ q. Fits (state_after s now q) now at (alone_after s.limits life ask now))
-          (sym e) (subst (λ q. Fits s now at q) (sym l) fits);
-    }
+own_refused s ask now o at life e a l fits = search (rules, arith)
 
 -- what a request asks of this session, alone
 alone_act : (limits : Limits) (session : Session) (ask : Ask) (now : ℕ) (name at : List ℕ) (act : Act)
     → upload_view ask ≡ OfSession name at act → alone_outcome limits session ask now
     ≡ at_session limits.max_blob (unless_idle limits.max_idle now (Some session)) name at act
-alone_act limits session ask now name at act view =
-    ap (λ v. on_session v (refused refusals.NoUpload)
-    (at_session limits.max_blob (unless_idle limits.max_idle now (Some session)))) view
+alone_act limits session ask now name at act view = cc
 
 own_carried : (s : State) (ask : Ask) (secret : List ℕ) (from now : ℕ) (name at : List ℕ) (act : Act) (life : Life)
     → IsNumbered s → from ≤ now → upload_view ask ≡ OfSession name at act → carries at ask ≡ true → Fits s from at life
     → Own s ask now (outcome s ask secret now) at life
-own_carried s ask secret from now name at act Unborn h later view c fits =
-    own_refused s ask now (outcome s ask secret now) at Unborn
-    (outcome_of_view s ask secret now name at act view
-    ∙ ap (λ x. at_session s.limits.max_blob (unless_idle s.limits.max_idle now x) name at act) fits)
-    (ap (λ v. first_answer at (opened_under v)) view) (ap (λ v. first_life (opened_under v) now) view) fits
-own_carried s ask secret from now name at act Gone h later view c fits =
-    own_refused s ask now (outcome s ask secret now) at Gone
-    (outcome_of_view s ask secret now name at act view
-    ∙ ap (λ x. at_session s.limits.max_blob (unless_idle s.limits.max_idle now x) name at act) fits.0) refl refl fits
-own_carried s ask secret from now name at act (Open session) h later view c (inl is_open) =
-    let e : outcome s ask secret now ≡ alone_outcome s.limits session ask now =
-    outcome_of_view s ask secret now name at act view
-    ∙ ap (λ x. at_session s.limits.max_blob (unless_idle s.limits.max_idle now x) name at act) is_open
-    ∙ sym (alone_act s.limits session ask now name at act view) in
-    record {
-      told = ap answer_of e;
-      fits =
-          subst (λ q. Fits (state_after s now (outcome s ask secret now)) now at (life_after session now q)) e
-          (open_with s ask secret now _ _ (state_after s now (outcome s ask secret now))
-          (turn_fits s ask secret now _ refl) h at session is_open c);
-    }
-own_carried s ask secret from now name at act (Open session) h later view c (inr left) =
-    let idle : is_idle s.limits.max_idle now session ≡ true =
-    idle_later s.limits.max_idle from now session left.idle later in
-    let e : alone_outcome s.limits session ask now ≡ refused refusals.NoUpload =
-    alone_act s.limits session ask now name at act view
-    ∙ ap (λ x. at_session s.limits.max_blob x name at act) (idle_is_none s.limits.max_idle now session idle) in
-    own_refused s ask now (outcome s ask secret now) at (Open session)
-    (outcome_of_view s ask secret now name at act view
-    ∙ ap (λ x. at_session s.limits.max_blob (unless_idle s.limits.max_idle now x) name at act) left.gone.0)
-    (ap answer_of e) (ap (life_after session now) e)
-    (fits_by s s from now at (Open session) refl (omega arith) refl later (inr left))
+own_carried s ask secret from now name at act life h1 h2 h3 h4 h5 =
+    grind (arith, own_refused, outcome_of_view, alone_act, open_with, turn_fits, idle_later, idle_is_none, fits_by)
 
 pub own_by_reference : (s : State) (ask : Ask) (secret : List ℕ) (from now : ℕ) (at : List ℕ) (life : Life)
     → IsNumbered s → from ≤ now → carries at ask ≡ true → Fits s from at life
@@ -245,19 +146,14 @@ own_by_reference s ask secret from now at life h later c fits =
 begun_alone : (s : State) (ask : Ask) (now : ℕ) (name at new : List ℕ) (rest : State) → at ≡ new → AsksToBegin name ask
     → (answers.Begun name new ≡ alone_answer s.limits at Unborn ask now)
     × Fits (state_with s now (OneBegins name new) rest) now at (alone_after s.limits Unborn ask now)
-begun_alone s ask now name at new rest is a = (
-  ap (answers.Begun name) (sym is) ∙ sym (ap (first_answer at) a),
-  subst (λ o. Fits (state_with s now (OneBegins name new) rest) now at (first_life o now)) (sym a)
-      (inl (ap (map.get (sessions_with s now (OneBegins name new))) is ∙ get-insert_same (swept s now) new _)),
-)
+begun_alone s ask now name at new rest is a = search (rules, arith, state_with, get-insert_same)
 
 own_with : (s : State) (ask : Ask) (secret : List ℕ) (from now : ℕ) (answer : Answer) (change : SessionChange)
     (rest : State) → FitsChange s ask secret now answer change
     → (at : List ℕ) (life : Life) → IsNumbered s → begins at answer ≡ true → Fits s from at life
     → (answer ≡ alone_answer s.limits at life ask now)
     × Fits (state_with s now change rest) now at (alone_after s.limits life ask now)
-own_with s ask secret from now answer AllStay rest f at life h b fits =
-    absurd (true≢false (sym b ∙ ap (is_same at) f.begins_none))
+own_with s ask secret from now answer AllStay rest f at life h b fits = search (rules, arith, true≢false)
 own_with s ask secret from now answer (OneBegins name new) rest f at Unborn h b fits =
     let own =
     begun_alone s ask now name at new rest (eq_from_same at new (sym (ap (begins at) f.1) ∙ b)) f.0.asked in
@@ -272,9 +168,8 @@ own_with s ask secret from now answer (OneBegins name new) rest f at Gone h b fi
     absurd (not_new s secret at new f.0.is_new f.0.numbers_left fits.1
     (eq_from_same at new (sym (ap (begins at) f.1) ∙ b)))
 own_with s ask secret from now answer (OneTakes name to received) rest f at life h b fits =
-    absurd (true≢false (sym b ∙ ap (begins at) f.1))
-own_with s ask secret from now answer (OneLeaves to) rest f at life h b fits =
-    absurd (true≢false (sym b ∙ ap (is_same at) f.begins_none))
+    search (rules, arith, true≢false)
+own_with s ask secret from now answer (OneLeaves to) rest f at life h b fits = search (rules, arith, true≢false)
 
 pub own_by_opening : (s : State) (ask : Ask) (secret : List ℕ) (from now : ℕ) (o : Outcome)
     → IsOutcome s ask secret now o → (at : List ℕ) (life : Life) → IsNumbered s → begins at (answer_of o) ≡ true

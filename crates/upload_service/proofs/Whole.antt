@@ -1,5 +1,5 @@
 -- The headline of a whole run.
-use Rattle.std.proofs.Common.{◌≡◌, ℕ, List, [], ◌∷◌, ◌++◌, length, refl, sym, ap, subst, arith}
+use Rattle.std.proofs.Common.{◌≡◌, ℕ, List, [], ◌∷◌, ◌++◌, length, refl, subst, arith, rules}
 use Rattle.upload_service.specs.declared.ask.Ask.{Ask}
 use Rattle.upload_service.specs.declared.answer.Answer.{Answer}
 use Rattle.upload_service.specs.Machine.{State}
@@ -34,9 +34,7 @@ run_split : (front : List Exchange) (s : State) (x : Exchange) (rest : List Exch
     × Turn before x.ask x.secret x.now x.answer after × Run after rest t
 unfolding Turn
 run_split [] s x rest t (mid, turn, later) = (s, mid, refl, turn, later)
-run_split (y ∷ ys) s x rest t (mid, turn, later) =
-    let parts = run_split ys mid x rest t later in
-    (parts.0, parts.1, (mid, turn, parts.2), parts.3, parts.4)
+run_split (y ∷ ys) s x rest t (mid, turn, later) = search (rules, arith, run_split ys mid x rest t later)
 
 never_in_front : (front : List Exchange) (x : Exchange) (rest : List Exchange) (from : ℕ)
     → NeverBefore from (front ++ x ∷ rest) → NeverBefore from (front ++ x ∷ [])
@@ -72,14 +70,10 @@ pub exchanges-push : (jobs : List Job) (answered : List Answer) (job : Job) (ans
 exchanges-push [] [] job answer e = refl
 exchanges-push [] (a ∷ as') job answer e = absurd (omega arith)
 exchanges-push (j ∷ js) [] job answer e = absurd (omega arith)
-exchanges-push (j ∷ js) (a ∷ as') job answer e =
-    ap (λ xs. record { ask = j.0; secret = j.1; now = j.2; answer = a } ∷ xs)
-    (exchanges-push js as' job answer (omega arith))
+exchanges-push (j ∷ js) (a ∷ as') job answer e = cc (exchanges-push js as' job answer (omega arith))
 
 pub run_more : (start mid end : State) (jobs : List Job) (answered : List Answer) (job : Job) (answer : Answer)
     → length jobs ≡ length answered → Run start (exchanges jobs answered) mid → Turn mid job.0 job.1 job.2 answer end
     → Run start (exchanges (jobs ++ job ∷ []) (answered ++ answer ∷ [])) end
 unfolding Turn
-run_more start mid end jobs answered job answer e run turn =
-    subst (λ xs. Run start xs end) (sym (exchanges-push jobs answered job answer e))
-    (run-push (exchanges jobs answered) start mid end _ run turn)
+run_more start mid end jobs answered job answer e run turn = search (rules, arith, exchanges-push, run-push)

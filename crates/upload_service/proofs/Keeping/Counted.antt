@@ -1,5 +1,5 @@
 -- How many blobs the two trees hold together.
-use Rattle.std.proofs.Common.{◌≡◌, ℕ, ◌+◌, suc, List, [], ◌∷◌, length, false, refl, ◌∙◌, ap, length-append, map as list_map}
+use Rattle.std.proofs.Common.{◌≡◌, ℕ, ◌+◌, suc, List, [], ◌∷◌, length, false, refl, ap, length-append, map as list_map}
 use Rattle.std.specs.List.{IsDistinct, AllByRecursion}
 use Rattle.std.specs.FinMap as map
 use Rattle.std.specs.Map.{keys_of}
@@ -51,12 +51,8 @@ length_256 [] = refl
 length_256 (e ∷ es) = ap suc (length_256 es)
 
 length_rows : (es fs : Items) → length (rows es fs) ≡ length es + length fs
-length_rows es fs =
-    length-append (list_map (λ e. (sha256_digest e.0, e.1)) es) (list_map (λ e. (sha512_digest e.0, e.1)) fs)
-    ∙ (λ i. length_256 es i + length_512 fs i)
+length_rows es fs = simp (length-append, list_map, length_256, length_512)
 
 pub len_blobs : (es fs : Items) → IsDistinct same (keys_of es) → IsDistinct same (keys_of fs)
     → map.len (stocked es fs).blobs ≡ length es + length fs
-len_blobs es fs h g =
-    len_distinct digests_total digests_exact (λ (item : Item). item.blob) (rows es fs) (distinct_rows es fs h g)
-    ∙ length_rows es fs
+len_blobs es fs h g = simp (len_distinct, digests_total, digests_exact, distinct_rows, length_rows)

@@ -1,10 +1,8 @@
 -- A repository that has a blob no more, by the trees that the blobs are kept in.
-use Rattle.std.proofs.Common.{◌≡◌, ◌≢◌, ℕ, ◌+◌, List, Bool, true, false, Option, Some, None, refl, sym, ◌∙◌, ap}
-use Rattle.std.proofs.Common.{cond, inl, inr}
+use Rattle.std.proofs.Common.{◌≡◌, ◌≢◌, ℕ, ◌+◌, List, true, false, Option, Some, None, sym, ◌∙◌, ap}
+use Rattle.std.proofs.Common.{cond, inl, inr, arith, rules}
 use Rattle.std.specs.Prelude.{◌||◌, ◌&&◌, ◌==◌, not}
 use Rattle.std.specs.List.{list_any, list_all}
-use Rattle.std.specs.Ordering.{eq_by_cmp}
-use Rattle.std.specs.FinMap as map
 use Rattle.std.specs.FinSet as set
 use Rattle.std.specs.FinSet.{FinSet}
 use Rattle.std.specs.Map.{lookup}
@@ -30,25 +28,13 @@ use Rattle.upload_service.proofs.Keeping.Tables.{contains-insert}
 module _ (es : Items) (key name : List ℕ) (none : is_held name (lookup (same key) es) ≡ false) where
   pub held_absent : (q n : List ℕ) → is_held n (lookup (same q) es)
       ≡ (not (same q key && same n name) && is_held n (lookup (same q) es))
-  held_absent q n = elim (one_or_two q key) [
-    | inl e ↦ elim (one_or_two n name) [
-      | inl f ↦
-          let gone : is_held n (lookup (same q) es) ≡ false = (λ i. is_held (f i) (lookup (same (e i)) es)) ∙ none in
-          gone ∙ sym (ap (λ b. not (same q key && same n name) && b) gone ∙ and-false _)
-      | inr ne ↦ sym (ap (λ b. not (same q key && b) && is_held n (lookup (same q) es)) (same_from_ne n name ne)
-          ∙ ap (λ b. not b && is_held n (lookup (same q) es)) (and-false (same q key)))
-    ]
-    | inr ne ↦ sym (ap (λ b. not (b && same n name) && is_held n (lookup (same q) es)) (same_from_ne q key ne))
-  ]
+  held_absent q n = search (rules, arith, one_or_two, and-false, same_from_ne)
 
 pub blob_stays : (es es' : Items) (key name : List ℕ) → is_held_alone name (lookup (same key) es) ≡ false
     → ((q : List ℕ) → blob_in (lookup (same q) es') ≡ blob_in (lookup (same q) es)) → (q : List ℕ)
     → blob_in (lookup (same q) es')
     ≡ cond (same q key && is_held_alone name (lookup (same key) es)) None (blob_in (lookup (same q) es))
-blob_stays es es' key name alone h q =
-    h q
-    ∙ sym (ap (λ b. cond (same q key && b) None (blob_in (lookup (same q) es))) alone
-    ∙ ap (λ b. cond b None (blob_in (lookup (same q) es))) (and-false (same q key)))
+blob_stays es es' key name alone h q = search (rules, arith, and-false)
 
 -- an item that is written under a key and removed then
 module _ (es es' es'' : Items) (key : List ℕ) (was item : Item) (has : Some was ≡ lookup (same key) es)
@@ -59,38 +45,19 @@ module _ (es es' es'' : Items) (key : List ℕ) (was item : Item) (has : Some wa
   gone_at q e = r q ∙ ap (λ b. cond b None (lookup (same q) es')) (same_from_eq key q (sym e))
 
   else_same : (q : List ℕ) → q ≢ key → lookup (same q) es'' ≡ lookup (same q) es
-  else_same q ne =
-      r q
-      ∙ ap (λ b. cond b None (lookup (same q) es')) (same_from_ne key q (λ e. ne (sym e)))
-      ∙ elsewhere es es' key item (Some was) has h q ne
+  else_same q ne = search (rules, arith, same_from_ne, elsewhere)
 
   pub blob_gone : (q : List ℕ) → blob_in (lookup (same q) es'')
       ≡ cond (same q key && is_held_alone name (lookup (same key) es)) None (blob_in (lookup (same q) es))
-  blob_gone q = elim (one_or_two q key) [
-    | inl e ↦ ap blob_in (gone_at q e)
-        ∙ sym (λ i. cond (same_from_eq q key e i && alone i) None (blob_in (lookup (same q) es)))
-    | inr ne ↦ ap blob_in (else_same q ne)
-        ∙ sym (ap (λ b. cond (b && is_held_alone name (lookup (same key) es)) None (blob_in (lookup (same q) es)))
-        (same_from_ne q key ne))
-  ]
+  blob_gone q = search (rules, arith, one_or_two, gone_at, same_from_eq, else_same, same_from_ne)
 
   no_other : (q n : List ℕ) → q ≡ key → n ≢ name → is_held n (lookup (same q) es) ≡ false
-  no_other q n e ne =
-      ap (is_held n) (ap (λ r. lookup (same r) es) e ∙ sym has)
-      ∙ false_from_ne_true (list_any (same n) was.holders) (λ t. ne (alone_all name was.holders
-      (and_parts (list_any (same name) was.holders) _ (ap (is_held_alone name) has ∙ alone)).1 n t))
+  no_other q n e ne = search (rules, arith, false_from_ne_true, alone_all, and_parts)
 
   pub held_gone : (q n : List ℕ)
       → is_held n (lookup (same q) es'') ≡ (not (same q key && same n name) && is_held n (lookup (same q) es))
-  held_gone q n = elim (one_or_two q key) [
-    | inl e ↦ ap (is_held n) (gone_at q e) ∙ elim (one_or_two n name) [
-      | inl f ↦ sym
-          (λ i. not (same_from_eq q key e i && same_from_eq n name f i) && is_held n (lookup (same q) es))
-      | inr ne ↦ sym (ap (λ b. not (same q key && same n name) && b) (no_other q n e ne) ∙ and-false _)
-    ]
-    | inr ne ↦ ap (is_held n) (else_same q ne)
-        ∙ sym (ap (λ b. not (b && same n name) && is_held n (lookup (same q) es)) (same_from_ne q key ne))
-  ]
+  held_gone q n =
+      search (rules, arith, one_or_two, gone_at, same_from_eq, no_other, and-false, else_same, same_from_ne)
 
 -- BOTH TREES
 
@@ -134,24 +101,12 @@ module _ (pairs : FinSet pair_cmp) (digest : Digest) (name : List ℕ) (item : I
       (set.len-empty pair_cmp i + 1))
 
   pub only_if_all : (set.len (pairs_under pairs digest) == 1) ≡ list_all (same name) item.holders
-  only_if_all = elim (list_all (same name) item.holders) as (λ b. list_all (same name) item.holders ≡ b
-      → (set.len (pairs_under pairs digest) == 1) ≡ b) [
-        | true ↦ λ all. ap (λ n. n == 1) (one_len all)
-        | false ↦ λ e.
-            let other = other_of name item.holders e in
-            not_only pairs name other.0 digest (h name ∙ has) (h other.0 ∙ other.1) (ne_from_same other.0 name other.2)
-      ] refl
+  only_if_all = search (rules, arith, one_len, other_of, not_only, ne_from_same)
 
 pub only_by : (pairs : FinSet pair_cmp) (digest : Digest) (name : List ℕ) (o : Option Item)
     → ((n : List ℕ) → set.contains pairs (n, digest) ≡ is_held n o) → is_only pairs name digest ≡ is_held_alone name o
 only_by pairs digest name None h = ap (λ b. b && (set.len (pairs_under pairs digest) == 1)) (h name)
-only_by pairs digest name (Some item) h =
-    ap (λ b. b && (set.len (pairs_under pairs digest) == 1)) (h name)
-    ∙ elim (list_any (same name) item.holders) as (λ b. list_any (same name) item.holders ≡ b
-    → (b && (set.len (pairs_under pairs digest) == 1)) ≡ (b && list_all (same name) item.holders)) [
-      | true ↦ λ has. only_if_all pairs digest name item h has
-      | false ↦ λ _. refl
-    ] refl
+only_by pairs digest name (Some item) h = search (rules, arith, only_if_all)
 
 -- the blobs and the pairs of both trees, of which one loses a repository's blob
 module _ (es es' fs : Items) (key name : List ℕ) where
@@ -160,17 +115,7 @@ module _ (es es' fs : Items) (key name : List ℕ) where
       → (stocked es' fs).blobs
       ≡ blobs_left (stocked es fs).blobs (stocked es fs).pairs name (sha256_digest key)
   blobs_left_sha256 h =
-      let alone : Bool = is_held_alone name (lookup (same key) es) in
-      let left = cond alone (map.remove (stocked es fs).blobs (sha256_digest key)) (stocked es fs).blobs in
-      same_blobs (stocked es' fs).blobs left
-      (λ q. get_sha256 es' fs q ∙ h q
-      ∙ sym (get-without (stocked es fs).blobs (sha256_digest key) alone (sha256_digest q)
-      ∙ ap (cond (same q key && alone) None) (get_sha256 es fs q)))
-      (λ q. get_sha512 es' fs q
-      ∙ sym (get-without (stocked es fs).blobs (sha256_digest key) alone (sha512_digest q) ∙ get_sha512 es fs q))
-      ∙ ap (λ b. cond b (map.remove (stocked es fs).blobs (sha256_digest key)) (stocked es fs).blobs)
-      (sym (only_by (stocked es fs).pairs (sha256_digest key) name (lookup (same key) es)
-      (λ n. contains_sha256 es fs n key)))
+      search (rules, arith, same_blobs, get_sha256, get-without, get_sha512, only_by, contains_sha256)
 
   pub pairs_left_sha256 : ((q n : List ℕ)
       → is_held n (lookup (same q) es') ≡ (not (same q key && same n name) && is_held n (lookup (same q) es)))
@@ -191,17 +136,7 @@ module _ (es fs fs' : Items) (key name : List ℕ) where
       → (stocked es fs').blobs
       ≡ blobs_left (stocked es fs).blobs (stocked es fs).pairs name (sha512_digest key)
   blobs_left_sha512 h =
-      let alone : Bool = is_held_alone name (lookup (same key) fs) in
-      let left = cond alone (map.remove (stocked es fs).blobs (sha512_digest key)) (stocked es fs).blobs in
-      same_blobs (stocked es fs').blobs left
-      (λ q. get_sha256 es fs' q
-      ∙ sym (get-without (stocked es fs).blobs (sha512_digest key) alone (sha256_digest q) ∙ get_sha256 es fs q))
-      (λ q. get_sha512 es fs' q ∙ h q
-      ∙ sym (get-without (stocked es fs).blobs (sha512_digest key) alone (sha512_digest q)
-      ∙ ap (cond (same q key && alone) None) (get_sha512 es fs q)))
-      ∙ ap (λ b. cond b (map.remove (stocked es fs).blobs (sha512_digest key)) (stocked es fs).blobs)
-      (sym (only_by (stocked es fs).pairs (sha512_digest key) name (lookup (same key) fs)
-      (λ n. contains_sha512 es fs n key)))
+      search (rules, arith, same_blobs, get_sha256, get-without, get_sha512, only_by, contains_sha512)
 
   pub pairs_left_sha512 : ((q n : List ℕ)
       → is_held n (lookup (same q) fs') ≡ (not (same q key && same n name) && is_held n (lookup (same q) fs)))
@@ -219,5 +154,4 @@ module _ (es fs fs' : Items) (key name : List ℕ) where
 -- a pair less has no name that isn't known
 pub fewer_known : (names : List (List ℕ)) (pairs pairs' : FinSet pair_cmp) (p : List ℕ × Digest) → AreKnown names pairs
     → pairs' ≡ set.remove pairs p → AreKnown names pairs'
-fewer_known names pairs pairs' p known e = λ n d has. known n d (and_parts (not (eq_by_cmp pair_cmp (n, d) p)) _
-    (sym (ap (λ (s : FinSet pair_cmp). set.contains s (n, d)) e ∙ contains-remove pairs p (n, d)) ∙ has)).1
+fewer_known names pairs pairs' p known e = search (rules, arith, and_parts, contains-remove)

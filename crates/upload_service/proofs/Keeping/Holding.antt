@@ -1,6 +1,6 @@
 -- The repositories of a blob.
 use Rattle.std.proofs.Common.{◌≡◌, ℕ, List, [], ◌∷◌, Bool, true, false, Option, Some, None, refl, sym, ◌∙◌, ap, cond}
-use Rattle.std.proofs.Common.{inl, inr, Bor, map as list_map, length, suc, arith, ◌≢◌}
+use Rattle.std.proofs.Common.{inl, inr, Bor, map as list_map, length, suc, arith, ◌≢◌, rules}
 use Rattle.std.specs.Prelude.{◌||◌, ◌&&◌, not, ◌↔◌, IsTrue, is_some, IfSome, IfNone, OnOk}
 use Rattle.std.specs.declared.result.Result.{Result}
 use Rattle.std.specs.declared.result.Result.TheVariants.{Ok, Err}
@@ -21,19 +21,12 @@ use Rattle.upload_service.proofs.Keeping.Tables.{same_from_eq, same_from_ne, one
 
 -- a test for equality is the look-up among one
 pub only_one : (b : Bool) (only name : List ℕ) → IsTrue b ↔ (only ≡ name) → b ≡ list_any (same name) (only ∷ [])
-only_one b only name h = elim (one_or_two name only) [
-  | inl e ↦ h.1 (sym e) ∙ sym (ap (λ t. t || false) (same_from_eq name only e))
-  | inr ne ↦ false_from_ne_true b (λ t. ne (sym (h.0 t))) ∙ sym (ap (λ t. t || false) (same_from_ne name only ne))
-]
+only_one b only name h = search (rules, arith, one_or_two, same_from_eq, false_from_ne_true, same_from_ne)
 
 -- one more that was among them
 pub known_one : (names : List (List ℕ)) (name : List ℕ) → list_any (same name) names ≡ true → (q : List ℕ)
     → list_any (same q) names ≡ (same q name || list_any (same q) names)
-known_one names name h q = elim (one_or_two q name) [
-  | inl e ↦
-      ap (λ r. list_any (same r) names) e ∙ h ∙ sym (ap (λ t. t || list_any (same q) names) (same_from_eq q name e))
-  | inr ne ↦ sym (ap (λ t. t || list_any (same q) names) (same_from_ne q name ne))
-]
+known_one names name h q = search (rules, arith, one_or_two, same_from_eq, same_from_ne)
 
 -- what an insertion leaves in a set of names
 pub one_more : (name q : List ℕ) (b : Bool) → cond (same name q) true b ≡ (same q name || b)
@@ -54,19 +47,11 @@ one_less name q b = ap (λ t. cond t false b) (tied_flips nat_list_cmp_total nam
 -- a name that isn't among these is no loss to them
 pub absent_one : (names : List (List ℕ)) (name : List ℕ) → list_any (same name) names ≡ false → (q : List ℕ)
     → list_any (same q) names ≡ (not (same q name) && list_any (same q) names)
-absent_one names name h q = elim (one_or_two q name) [
-  | inl e ↦
-      ap (λ r. list_any (same r) names) e ∙ h ∙ sym (ap (λ t. not t && list_any (same q) names) (same_from_eq q name e))
-  | inr ne ↦ sym (ap (λ t. not t && list_any (same q) names) (same_from_ne q name ne))
-]
+absent_one names name h q = search (rules, arith, one_or_two, same_from_eq, same_from_ne)
 
 -- one name is alone if it is this one
 pub alone_one : (name only : List ℕ) → list_any (same name) (only ∷ []) ≡ is_alone name (only ∷ [])
-alone_one name only = either (same name only)
-  where
-    either : (b : Bool) → (b || false) ≡ ((b || false) && (b && true))
-    either true = refl
-    either false = refl
+alone_one name only = search (rules, arith)
 
 pub alone_absent : (names : List (List ℕ)) (name : List ℕ) → list_any (same name) names ≡ false
     → is_alone name names ≡ false
@@ -87,21 +72,14 @@ alone_all name (x ∷ names) all q has =
 all_alone : (name : List ℕ) (names : List (List ℕ))
     → ((q : List ℕ) → list_any (same q) names ≡ true → same name q ≡ true) → list_all (same name) names ≡ true
 all_alone name [] h = refl
-all_alone name (x ∷ names) h =
-    (λ i. h x (ap (λ b. b || list_any (same x) names) (same_itself x)) i
-    && all_alone name names (λ q has. h q (ap (λ b. same q x || b) has ∙ or-true (same q x))) i)
+all_alone name (x ∷ names) h = search (rules, arith, same_itself, or-true, all_alone name names)
 
 -- another name than one that is alone
 pub other_of : (name : List ℕ) (names : List (List ℕ)) → list_all (same name) names ≡ false
     → (q : List ℕ) × (list_any (same q) names ≡ true) × (same q name ≡ false)
 other_of name [] e = absurd (true≢false e)
-other_of name (x ∷ names) e = elim (one_or_two x name) [
-  | inl is ↦
-      let rest = other_of name names
-      (sym (ap (λ b. b && list_all (same name) names) (same_from_eq name x (sym is))) ∙ e) in
-      (rest.0, ap (λ b. same rest.0 x || b) rest.1 ∙ or-true (same rest.0 x), rest.2)
-  | inr ne ↦ (x, ap (λ b. b || list_any (same x) names) (same_itself x), same_from_ne x name ne)
-]
+other_of name (x ∷ names) e =
+    grind (arith, one_or_two x name, same_from_eq name x, same_itself x, same_from_ne x name, other_of name names)
 
 -- a name that was among these is alone if none is left without it
 module _ (name : List ℕ) (old : List (List ℕ)) (has : list_any (same name) old ≡ true) where
@@ -115,10 +93,8 @@ module _ (name : List ℕ) (old : List (List ℕ)) (has : list_any (same name) o
       only false e = e
 
   pub alone_one_left : (q : List ℕ) → (not (same q name) && list_any (same q) old) ≡ true → is_alone name old ≡ false
-  alone_one_left q h = ap (λ b. list_any (same name) old && b) (false_from_ne_true (list_all (same name) old) (λ all.
-      let is = alone_all name old all q (and_parts (not (same q name)) _ h).1 in
-      true≢false (sym h ∙ ap (λ b. not b && list_any (same q) old) (same_from_eq q name is))))
-      ∙ and-false (list_any (same name) old)
+  alone_one_left q h =
+      search (rules, arith, false_from_ne_true, alone_all, and_parts, true≢false, same_from_eq, and-false)
 
 -- a name that is put under itself
 pub shared_more : {Z : Type 0} (es es' : List (List ℕ × Arc (List ℕ) Z)) (key : List ℕ) (item : Arc (List ℕ) Z)
@@ -138,44 +114,25 @@ shared_more es es' key item own is h = λ name shared at. elim (one_or_two key n
 pub any_key : {V : Type 0} (p : List ℕ → Bool) (es : List (List ℕ × V))
     → list_any p (keys_of es) ≡ is_some (lookup p es)
 any_key p [] = refl
-any_key p (e ∷ es) = ap (λ b. p e.0 || b) (any_key p es) ∙ told (p e.0)
-  where
-    told : (b : Bool) → (b || is_some (lookup p es)) ≡ is_some (cond b (Some e.1) (lookup p es))
-    told true = refl
-    told false = refl
+any_key p (e ∷ es) = search (rules, arith, any_key p es)
 
 -- a key more leaves the others among the keys
 pub still_key : {V : Type 0} (es es' : List (List ℕ × V)) (key : List ℕ) (item : V)
     → ((q : List ℕ) → lookup (same q) es' ≡ cond (same key q) (Some item) (lookup (same q) es)) → (q : List ℕ)
     → list_any (same q) (keys_of es) ≡ true → list_any (same q) (keys_of es') ≡ true
-still_key es es' key item h q e =
-    any_key (same q) es' ∙ ap is_some (h q) ∙ either (same key q) (sym (any_key (same q) es) ∙ e)
-  where
-    either : (b : Bool) → is_some (lookup (same q) es) ≡ true → is_some (cond b (Some item) (lookup (same q) es)) ≡ true
-    either true e = refl
-    either false e = e
+still_key es es' key item h q e = search (rules, arith, any_key)
 
 pub new_key : {V : Type 0} (es es' : List (List ℕ × V)) (key : List ℕ) (item : V)
     → ((q : List ℕ) → lookup (same q) es' ≡ cond (same key q) (Some item) (lookup (same q) es)) → (name : List ℕ)
     → key ≡ name → list_any (same name) (keys_of es') ≡ true
-new_key es es' key item h name e =
-    any_key (same name) es' ∙ ap is_some (h name)
-    ∙ ap (λ b. is_some (cond b (Some item) (lookup (same name) es))) (same_from_eq key name e)
+new_key es es' key item h name e = search (rules, arith, any_key, same_from_eq)
 
 -- the keys are those that were there and the new one
 pub one_key : {V : Type 0} (es es' : List (List ℕ × V)) (key : List ℕ) (item : V)
     → ((q : List ℕ) → lookup (same q) es' ≡ cond (same key q) (Some item) (lookup (same q) es)) → (name : List ℕ)
     → key ≡ name → (q : List ℕ) → list_any (same q) (keys_of es') ≡ (same q name || list_any (same q) (keys_of es))
 one_key es es' key item h name e q =
-    any_key (same q) es'
-    ∙ ap is_some (h q)
-    ∙ either (same key q)
-    ∙ (λ i. tied_flips nat_list_cmp_total key q i || list_any (same q) (keys_of es))
-    ∙ ap (λ k. same q k || list_any (same q) (keys_of es)) e
-  where
-    either : (b : Bool) → is_some (cond b (Some item) (lookup (same q) es)) ≡ (b || list_any (same q) (keys_of es))
-    either true = refl
-    either false = sym (any_key (same q) es)
+    grind (arith, any_key (same q) es', tied_flips nat_list_cmp_total key q, any_key (same q) es)
 
 module _ {Z : Type 0} where
   -- what a look-up of a shared name gives
@@ -229,7 +186,7 @@ module _ {Z : Type 0} where
       → list_any (eq_by_cmp by_name name) names ≡ true → list_map arc_value names ≡ arc_value name ∷ []
   only_name name [] one has = absurd (true≢false (sym has))
   only_name name (x ∷ []) one has =
-      ap (λ n. n ∷ []) (sym (eq_from_same (arc_value name) (arc_value x) (sym (or-false _) ∙ has)))
+      cc (eq_from_same (arc_value name) (arc_value x) (sym (or-false _) ∙ has), or-false _)
   only_name name (x ∷ y ∷ names) one has = absurd (omega (arith, one))
 
   pub name_more : (name : Arc (List ℕ) Z) (old new : List (Arc (List ℕ) Z)) → ((q : Arc (List ℕ) Z)

@@ -1,6 +1,6 @@
 -- What changes of a map's entries do to the table that they stand for.
 use Rattle.std.proofs.Common.{◌≡◌, suc, ◌+◌, List, [], ◌∷◌, length, Bool, true, false, Option, Some, None, refl, sym}
-use Rattle.std.proofs.Common.{◌∙◌, ap, cond, arith, ◌⊎◌, inl, inr}
+use Rattle.std.proofs.Common.{◌∙◌, ap, cond, arith, ◌⊎◌, rules}
 use Rattle.std.specs.Prelude.{is_some}
 use Rattle.std.specs.Option.{option_map}
 use Rattle.std.specs.Map.{lookup, keys_of}
@@ -8,7 +8,7 @@ use Rattle.std.specs.List.{IsDistinct}
 use Rattle.std.specs.List.Sorted.{IsStrictlySortedBy}
 use Rattle.std.specs.declared.cmp.Ordering.{Ordering}
 use Rattle.std.specs.Ordering.{eq_by_cmp, is_eq}
-use Rattle.std.specs.Cmp.{IsTotalOrder, Equal-is, eq_by_cmp_equiv, tied_itself}
+use Rattle.std.specs.Cmp.{IsTotalOrder, eq_by_cmp_equiv, tied_itself}
 use Rattle.std.specs.FinMap as map
 use Rattle.std.specs.FinMap.{IsAntisymmetric}
 use Rattle.std.proofs.lemmas.Map.{lookup-none}
@@ -34,11 +34,7 @@ module _ {K : Type 0} {R : K → K → Ordering} (total : IsTotalOrder R) where
 module _ {K : Type 0} {R : K → K → Ordering} (total : IsTotalOrder R) (exact : IsAntisymmetric R) where
   -- two keys are one, or they are apart
   pub one_or_apart : (x y : K) → (x ≡ y) ⊎ (eq_by_cmp R x y ≡ false)
-  one_or_apart x y =
-      elim (eq_by_cmp R x y) as (λ b. eq_by_cmp R x y ≡ b → (x ≡ y) ⊎ (b ≡ false)) [
-        | true ↦ λ e. inl (exact x y ((Equal-is (R x y)).0 e))
-        | false ↦ λ e. inr refl
-      ] refl
+  one_or_apart x y = search (rules, arith)
 
 module _ {K V X : Type 0} {R : K → K → Ordering} (total : IsTotalOrder R) (exact : IsAntisymmetric R) (f : V → X) where
   through : (b : Bool) (v : V) (o : Option V) → option_map f (cond b (Some v) o) ≡ cond b (Some (f v)) (option_map f o)
@@ -86,12 +82,7 @@ module _ {K V X : Type 0} {R : K → K → Ordering} (total : IsTotalOrder R) (e
   pub kept-written : (es fs : List (K × V)) (k : K) (v w : V) → Some v ≡ lookup (eq_by_cmp R k) es
       → ((q : K) → lookup (eq_by_cmp R q) fs ≡ cond (eq_by_cmp R k q) (Some w) (lookup (eq_by_cmp R q) es)) → f w ≡ f v
       → kept_as R f fs ≡ kept_as R f es
-  kept-written es fs k v w has h is =
-      kept-same es fs (λ q. ap (option_map f) (h q) ∙ elim (one_or_apart total exact k q) [
-        | inl e ↦ ap (λ b. option_map f (cond b (Some w) (lookup (eq_by_cmp R q) es))) (tied_from_eq total k q e)
-            ∙ ap Some is ∙ ap (option_map f) (has ∙ ap (λ r. lookup (eq_by_cmp R r) es) e)
-        | inr n ↦ ap (λ b. option_map f (cond b (Some w) (lookup (eq_by_cmp R q) es))) n
-      ])
+  kept-written es fs k v w has h is = search (rules, arith, kept-same, one_or_apart, tied_from_eq)
 
   pub len_distinct : (es : List (K × V)) → IsDistinct (eq_by_cmp R) (keys_of es) → map.len (kept_as R f es) ≡ length es
   len_distinct [] h = map.len-empty R X

@@ -1,14 +1,11 @@
 -- The stored blobs and their repositories, by the two trees that they are kept in.
 use Rattle.std.proofs.Common.{◌≡◌, ◌≢◌, ℕ, List, [], ◌∷◌, Bool, true, false, Option, Some, None, refl, sym, ◌∙◌, ap}
-use Rattle.std.proofs.Common.{cond, inl, inr, map as list_map}
+use Rattle.std.proofs.Common.{cond, inl, inr, map as list_map, arith, rules}
 use Rattle.std.specs.Prelude.{◌||◌, ◌&&◌, not, is_some, OnOk, OnErr}
 use Rattle.std.specs.declared.result.Result.{Result}
 use Rattle.std.specs.declared.result.Result.TheVariants.{Ok, Err}
-use Rattle.std.specs.declared.cmp.Ordering.{Ordering}
-use Rattle.std.specs.declared.cmp.Ordering.TheVariants.{Less, Equal, Greater}
 use Rattle.std.specs.List.{list_any}
-use Rattle.std.specs.Ordering.{nat_cmp, eq_by_cmp, is_eq, ordering_then}
-use Rattle.std.specs.Cmp.Lexicographic.{slice_cmp}
+use Rattle.std.specs.Ordering.{eq_by_cmp}
 use Rattle.std.specs.FinMap as map
 use Rattle.std.specs.FinSet as set
 use Rattle.std.specs.FinSet.{FinSet}
@@ -57,32 +54,15 @@ by_algorithm P one other d = elim d.algorithm as (λ a. P (record { algorithm = 
 
 -- the name first, and then the digest
 pub names_first : (x n : List ℕ) (y d : Digest) → eq_by_cmp pair_cmp (x, y) (n, d) ≡ (same x n && same_digest y d)
-names_first x n y d = both (slice_cmp nat_cmp x n) (digest_cmp y d)
-  where
-    both : (o r : Ordering) → is_eq (ordering_then o r) ≡ (is_eq o && is_eq r)
-    both Less r = refl
-    both Equal r = refl
-    both Greater r = refl
+names_first x n y d = search (rules, arith)
 
 -- a pair among those of a digest and others
 contains-noted : (digest : Digest) (names : List (List ℕ)) (others : FinSet pair_cmp) (n : List ℕ) (d : Digest)
     → set.contains (noted digest names others) (n, d)
     ≡ ((same_digest d digest && list_any (same n) names) || set.contains others (n, d))
-contains-noted digest [] others n d = none (same_digest d digest) _
-  where
-    none : (a b : Bool) → b ≡ ((a && false) || b)
-    none true b = refl
-    none false b = refl
+contains-noted digest [] others n d = search (rules, arith)
 contains-noted digest (name ∷ names) others n d =
-    contains-insert (noted digest names others) (name, digest) (n, d)
-    ∙ (λ i. names_first n name d digest i || contains-noted digest names others n d i)
-    ∙ sort (same n name) (same_digest d digest) (list_any (same n) names) (set.contains others (n, d))
-  where
-    sort : (a b c r : Bool) → ((a && b) || ((b && c) || r)) ≡ ((b && (a || c)) || r)
-    sort true true c r = refl
-    sort true false c r = refl
-    sort false true c r = refl
-    sort false false c r = refl
+    search (rules, arith, contains-insert, names_first, contains-noted digest names others n d)
 
 contains_rows : (es : List (Digest × Item)) (n : List ℕ) (d : Digest)
     → set.contains (pairs_of es) (n, d) ≡ is_held n (lookup (same_digest d) es)
@@ -170,11 +150,7 @@ module _ (es es' fs : Items) where
   pub blobs_sha256 : (key blob : List ℕ)
       → ((q : List ℕ) → blob_in (lookup (same q) es') ≡ cond (same q key) (Some blob) (blob_in (lookup (same q) es)))
       → (stocked es' fs).blobs ≡ map.insert (stocked es fs).blobs (sha256_digest key) blob
-  blobs_sha256 key blob h = same_blobs _ _
-      (λ q. get_sha256 es' fs q ∙ h q ∙ sym (blob-insert (stocked es fs).blobs (sha256_digest key) blob
-      (sha256_digest q) ∙ ap (cond (same q key) (Some blob)) (get_sha256 es fs q)))
-      (λ q. get_sha512 es' fs q
-      ∙ sym (blob-insert (stocked es fs).blobs (sha256_digest key) blob (sha512_digest q) ∙ get_sha512 es fs q))
+  blobs_sha256 key blob h = search (rules, arith, same_blobs, get_sha256, blob-insert, get_sha512)
 
   pub pairs_sha256 : (key name : List ℕ) → ((q n : List ℕ)
       → is_held n (lookup (same q) es') ≡ ((same q key && same n name) || is_held n (lookup (same q) es)))
@@ -197,9 +173,7 @@ module _ (es es' fs : Items) where
 
   pub same_pairs_sha256 : ((q n : List ℕ) → is_held n (lookup (same q) es') ≡ is_held n (lookup (same q) es))
       → (stocked es' fs).pairs ≡ (stocked es fs).pairs
-  same_pairs_sha256 h =
-      same_pairs _ _ (λ x q. contains_sha256 es' fs x q ∙ h q x ∙ sym (contains_sha256 es fs x q))
-      (λ x q. contains_sha512 es' fs x q ∙ sym (contains_sha512 es fs x q))
+  same_pairs_sha256 h = search (rules, arith, same_pairs, contains_sha256, contains_sha512)
 
 module _ (es fs fs' : Items) where
   pub kept_sha512 : ((q : List ℕ) → lookup (same q) fs' ≡ lookup (same q) fs) → stocked es fs' ≡ stocked es fs
@@ -216,11 +190,7 @@ module _ (es fs fs' : Items) where
   pub blobs_sha512 : (key blob : List ℕ)
       → ((q : List ℕ) → blob_in (lookup (same q) fs') ≡ cond (same q key) (Some blob) (blob_in (lookup (same q) fs)))
       → (stocked es fs').blobs ≡ map.insert (stocked es fs).blobs (sha512_digest key) blob
-  blobs_sha512 key blob h = same_blobs _ _
-      (λ q. get_sha256 es fs' q
-      ∙ sym (blob-insert (stocked es fs).blobs (sha512_digest key) blob (sha256_digest q) ∙ get_sha256 es fs q))
-      (λ q. get_sha512 es fs' q ∙ h q ∙ sym (blob-insert (stocked es fs).blobs (sha512_digest key) blob
-      (sha512_digest q) ∙ ap (cond (same q key) (Some blob)) (get_sha512 es fs q)))
+  blobs_sha512 key blob h = search (rules, arith, same_blobs, get_sha256, blob-insert, get_sha512)
 
   pub pairs_sha512 : (key name : List ℕ) → ((q n : List ℕ)
       → is_held n (lookup (same q) fs') ≡ ((same q key && same n name) || is_held n (lookup (same q) fs)))
@@ -243,9 +213,7 @@ module _ (es fs fs' : Items) where
 
   pub same_pairs_sha512 : ((q n : List ℕ) → is_held n (lookup (same q) fs') ≡ is_held n (lookup (same q) fs))
       → (stocked es fs').pairs ≡ (stocked es fs).pairs
-  same_pairs_sha512 h =
-      same_pairs _ _ (λ x q. contains_sha256 es fs' x q ∙ sym (contains_sha256 es fs x q))
-      (λ x q. contains_sha512 es fs' x q ∙ h q x ∙ sym (contains_sha512 es fs x q))
+  same_pairs_sha512 h = search (rules, arith, same_pairs, contains_sha256, contains_sha512)
 
 -- a blob that is put in the place of one that was put there
 pub put_again : (m : map.FinMap digest_cmp (List ℕ)) (d : Digest) (one other : List ℕ)
@@ -272,10 +240,7 @@ put_itself m d blob h =
 
 pub put_back : (m : map.FinMap digest_cmp (List ℕ)) (d : Digest) → is_some (map.get m d) ≡ true
     → map.insert m d (or_empty (map.get m d)) ≡ m
-put_back m d h = elim (map.get m d) as (λ o. map.get m d ≡ o → is_some o ≡ true → map.insert m d (or_empty o) ≡ m) [
-  | None ↦ λ e none. absurd (true≢false (sym none))
-  | Some blob ↦ λ e _. put_itself m d blob e
-] refl h
+put_back m d h = search (rules, arith, true≢false, put_itself)
 
 -- what a new item under a key does to the look-ups, if `before` was under it
 module _ (es es' : Items) (key : List ℕ) (item : Item) (before : Option Item) (has : before ≡ lookup (same key) es)
@@ -288,38 +253,21 @@ module _ (es es' : Items) (key : List ℕ) (item : Item) (before : Option Item) 
 
   pub blob_written : (q : List ℕ)
       → blob_in (lookup (same q) es') ≡ cond (same q key) (Some item.blob) (blob_in (lookup (same q) es))
-  blob_written q = elim (one_or_two q key) [
-    | inl e ↦ ap blob_in (at_key q e)
-        ∙ sym (ap (λ b. cond b (Some item.blob) (blob_in (lookup (same q) es))) (same_from_eq q key e))
-    | inr ne ↦ ap blob_in (elsewhere q ne)
-        ∙ sym (ap (λ b. cond b (Some item.blob) (blob_in (lookup (same q) es))) (same_from_ne q key ne))
-  ]
+  blob_written q = search (rules, arith, one_or_two, at_key, same_from_eq, elsewhere, same_from_ne)
 
   pub blob_kept : item.blob ≡ or_empty (blob_in before) → (q : List ℕ) → blob_in (lookup (same q) es')
       ≡ cond (same q key) (Some (or_empty (blob_in (lookup (same key) es)))) (blob_in (lookup (same q) es))
-  blob_kept e q =
-      blob_written q
-      ∙ ap (λ b. cond (same q key) (Some b) (blob_in (lookup (same q) es))) (e ∙ ap (λ o. or_empty (blob_in o)) has)
+  blob_kept e q = cc (blob_written q)
 
   pub held_more : (name : List ℕ) → ((n : List ℕ) → list_any (same n) item.holders ≡ (same n name || is_held n before))
       → (q n : List ℕ)
       → is_held n (lookup (same q) es') ≡ ((same q key && same n name) || is_held n (lookup (same q) es))
-  held_more name more q n = elim (one_or_two q key) [
-    | inl e ↦ ap (is_held n) (at_key q e) ∙ more n
-        ∙ sym (λ i. (same_from_eq q key e i && same n name) || is_held n ((ap (λ r. lookup (same r) es) e ∙ sym has) i))
-    | inr ne ↦ ap (is_held n) (elsewhere q ne)
-        ∙ sym (ap (λ b. (b && same n name) || is_held n (lookup (same q) es)) (same_from_ne q key ne))
-  ]
+  held_more name more q n = search (rules, arith, one_or_two, at_key, same_from_eq, elsewhere, same_from_ne)
 
   pub held_less : (name : List ℕ)
       → ((n : List ℕ) → list_any (same n) item.holders ≡ (not (same n name) && is_held n before)) → (q n : List ℕ)
       → is_held n (lookup (same q) es') ≡ (not (same q key && same n name) && is_held n (lookup (same q) es))
-  held_less name less q n = elim (one_or_two q key) [
-    | inl e ↦ ap (is_held n) (at_key q e) ∙ less n ∙ sym (λ i.
-        not (same_from_eq q key e i && same n name) && is_held n ((ap (λ r. lookup (same r) es) e ∙ sym has) i))
-    | inr ne ↦ ap (is_held n) (elsewhere q ne)
-        ∙ sym (ap (λ b. not (b && same n name) && is_held n (lookup (same q) es)) (same_from_ne q key ne))
-  ]
+  held_less name less q n = search (rules, arith, one_or_two, at_key, same_from_eq, elsewhere, same_from_ne)
 
   pub blob_same : Some item.blob ≡ blob_in before → (q : List ℕ)
       → blob_in (lookup (same q) es') ≡ blob_in (lookup (same q) es)
@@ -330,10 +278,7 @@ module _ (es es' : Items) (key : List ℕ) (item : Item) (before : Option Item) 
 
   pub held_kept : ((n : List ℕ) → list_any (same n) item.holders ≡ is_held n before) → (q n : List ℕ)
       → is_held n (lookup (same q) es') ≡ is_held n (lookup (same q) es)
-  held_kept keeps q n = elim (one_or_two q key) [
-    | inl e ↦ ap (is_held n) (at_key q e) ∙ keeps n ∙ sym (ap (is_held n) (ap (λ r. lookup (same r) es) e ∙ sym has))
-    | inr ne ↦ ap (is_held n) (elsewhere q ne)
-  ]
+  held_kept keeps q n = search (rules, arith, one_or_two, at_key, elsewhere)
 
   pub item_kept : Some item ≡ before → (q : List ℕ) → lookup (same q) es' ≡ lookup (same q) es
   item_kept e q = elim (one_or_two q key) [
@@ -345,27 +290,18 @@ module _ (es es' : Items) (key : List ℕ) (item : Item) (before : Option Item) 
 
 pub not_known : (names : List (List ℕ)) (pairs : FinSet pair_cmp) → AreKnown names pairs → (n : List ℕ) (d : Digest)
     → list_any (same n) names ≡ false → set.contains pairs (n, d) ≡ false
-not_known names pairs known n d e =
-    false_from_ne_true (set.contains pairs (n, d)) (λ has. true≢false (sym (known n d has) ∙ e))
+not_known names pairs known n d e = search (rules, arith, false_from_ne_true, true≢false)
 
 pub still_known : (names names' : List (List ℕ)) (pairs pairs' : FinSet pair_cmp) → AreKnown names pairs
     → ((q : List ℕ) → list_any (same q) names ≡ true → list_any (same q) names' ≡ true) → pairs' ≡ pairs
     → AreKnown names' pairs'
-still_known names names' pairs pairs' known kept e =
-    λ n d has. kept n (known n d (sym (ap (λ (s : FinSet pair_cmp). set.contains s (n, d)) e) ∙ has))
+still_known names names' pairs pairs' known kept e = search (rules, arith)
 
 pub one_more_known : (names names' : List (List ℕ)) (pairs pairs' : FinSet pair_cmp) (name : List ℕ) (digest : Digest)
     → AreKnown names pairs → ((q : List ℕ) → list_any (same q) names ≡ true → list_any (same q) names' ≡ true)
     → list_any (same name) names' ≡ true → pairs' ≡ set.insert pairs (name, digest) → AreKnown names' pairs'
-one_more_known names names' pairs pairs' name digest known kept new e = λ n d has.
-    let told : (same n name && same_digest d digest || set.contains pairs (n, d)) ≡ true =
-    sym (ap (λ (s : FinSet pair_cmp). set.contains s (n, d)) e ∙ contains-insert pairs (name, digest) (n, d)
-    ∙ ap (λ b. b || set.contains pairs (n, d)) (names_first n name d digest)) ∙ has in
-    elim (one_or_two n name) [
-      | inl is ↦ ap (λ r. list_any (same r) names') is ∙ new
-      | inr ne ↦ kept n (known n d
-          (sym (ap (λ b. (b && same_digest d digest) || set.contains pairs (n, d)) (same_from_ne n name ne)) ∙ told))
-    ]
+one_more_known names names' pairs pairs' name digest known kept new e =
+    search (rules, arith, contains-insert, names_first, one_or_two, same_from_ne)
 
 -- what holds after either answer
 pub after_either : {T E : Type 0} {A B G : Type 0} (r : Result T E) → OnOk r A → OnErr r B → (A → G) → (B → G) → G

@@ -1,6 +1,6 @@
 -- The entries of the awake sessions, and the table that they stand for.
 use Rattle.std.proofs.Common.{◌≡◌, ℕ, ◌+◌, ◌≤◌, ◌<◌, List, length, Bool, true, false, not, Option, Some, None, refl}
-use Rattle.std.proofs.Common.{sym, ◌∙◌, ap, cond, filter, arith}
+use Rattle.std.proofs.Common.{sym, ◌∙◌, ap, cond, filter, arith, rules}
 use Rattle.std.specs.Option.{option_map}
 use Rattle.std.specs.Map.{lookup, keys_of}
 use Rattle.std.specs.List.Sorted.{IsStrictlySortedBy}
@@ -50,9 +50,7 @@ only_awake : (max_idle now : ℕ) (o : Option OpenSession)
     → option_map session_of (option_filter (λ s. not (is_idle max_idle now (session_of s))) o)
     ≡ unless_idle max_idle now (option_map session_of o)
 only_awake max_idle now None = refl
-only_awake max_idle now (Some s) =
-    elim (is_idle max_idle now (session_of s)) as (λ b. option_map session_of (cond (not b) (Some s) None)
-    ≡ cond b None (Some (session_of s))) [ true ↦ refl | false ↦ refl ]
+only_awake max_idle now (Some s) = search (rules, arith)
 
 -- the awake entries stand for the awake sessions
 pub table_awake : (max_idle now : ℕ) (es : Entries) → IsStrictlySortedBy bytes_cmp (keys_of es)

@@ -1,6 +1,6 @@
 -- Tables at the key that was written, and at the others.
 use Rattle.std.proofs.Common.{◌≡◌, ◌≢◌, ℕ, arith, List, ◌∷◌, true, false, Some, None, refl, sym, ◌∙◌, ap, ◌⊎◌, inl, inr}
-use Rattle.std.proofs.Common.{cond}
+use Rattle.std.proofs.Common.{cond, rules}
 use Rattle.std.specs.Ordering.{nat_cmp, eq_by_cmp, is_eq}
 use Rattle.std.specs.Cmp.{Equal-is, tied_itself, IsTotalOrder}
 use Rattle.std.specs.Cmp.Lexicographic.{slice_cmp, nat_list_cmp_total}
@@ -14,7 +14,6 @@ use Rattle.std.proofs.lemmas.Cmp.{on_total, then_total}
 use Rattle.std.specs.Prelude.{◌||◌}
 use Rattle.upload_names.specs.Digest.{Digest, digest_key, digest_cmp, rank}
 use Rattle.upload_names.specs.declared.digest.Algorithm.{Algorithm}
-use Rattle.upload_names.specs.declared.digest.Algorithm.TheVariants as algorithms
 use Rattle.upload_service.specs.Machine.{same, same_digest, Table, pair_cmp}
 
 pub same_itself : (x : List ℕ) → same x x ≡ true
@@ -58,10 +57,7 @@ module _ {X : Type 0} where
       map.get-remove nat_list_cmp_total m k q ∙ ap (λ b. cond b None (map.get m q)) (same_from_ne q k n)
 
 same_rank : (a b : Algorithm) → rank a ≡ rank b → a ≡ b
-same_rank algorithms.Sha256 algorithms.Sha256 e = refl
-same_rank algorithms.Sha256 algorithms.Sha512 e = absurd (omega arith)
-same_rank algorithms.Sha512 algorithms.Sha256 e = absurd (omega arith)
-same_rank algorithms.Sha512 algorithms.Sha512 e = refl
+same_rank a b h = search (rules, arith)
 
 pub digests_total : IsTotalOrder digest_cmp
 digests_total = on_total digest_key nat_list_cmp_total
@@ -88,11 +84,7 @@ pub same_digest_from_ne : (x y : Digest) → x ≢ y → same_digest x y ≡ fal
 same_digest_from_ne x y n = false_from_ne_true (same_digest x y) (λ e. n (eq_from_same_digest x y e))
 
 pub one_or_two_digests : (x y : Digest) → (x ≡ y) ⊎ (x ≢ y)
-one_or_two_digests x y =
-    elim (same_digest x y) as (λ b. same_digest x y ≡ b → (x ≡ y) ⊎ (x ≢ y)) [
-      | true ↦ λ e. inl (eq_from_same_digest x y e)
-      | false ↦ λ e. inr (λ p. true≢false (sym (ap (same_digest x) (sym p) ∙ same_digest_itself x) ∙ e))
-    ] refl
+one_or_two_digests x y = grind (arith, eq_from_same_digest x y, same_digest_itself x)
 
 pub blob-insert : {X : Type 0} (m : FinMap digest_cmp X) (k : Digest) (v : X) (q : Digest)
     → map.get (map.insert m k v) q ≡ cond (same_digest q k) (Some v) (map.get m q)

@@ -1,4 +1,4 @@
-use Rattle.std.proofs.Common.{◌≡◌, false, sym, ◌∙◌, map as list_map}
+use Rattle.std.proofs.Common.{◌≡◌, false, sym, ◌∙◌, map as list_map, arith, rules}
 use Rattle.std.specs.Arc.{arc_value}
 use Rattle.std.specs.List.{list_any}
 use Rattle.upload_service.specs.Machine.{same}
@@ -12,8 +12,7 @@ returns-then-not-remove-clause-only c =
     sym (alone_absent (list_map arc_value c.args.names.now.keys) (arc_value c.args.name.now) absent)
 
 pub returns-then-not-remove-clause-removed : goal.returns-then-not-remove-clause-removed
-returns-then-not-remove-clause-removed c =
-    name_less c.args.name.now c.args.names.now.keys c.remove.new.self.keys c.remove.ensures.updates.0
+returns-then-not-remove-clause-removed c = search (rules, arith, name_less)
 
 pub returns-clause-only : goal.returns-clause-only
 returns-clause-only c =
@@ -23,5 +22,4 @@ returns-clause-only c =
     c.is_empty.ensures
 
 pub returns-clause-removed : goal.returns-clause-removed
-returns-clause-removed c =
-    name_less c.args.name.now c.args.names.now.keys c.remove.new.self.keys c.remove.ensures.updates.0
+returns-clause-removed c = search (rules, arith, name_less)

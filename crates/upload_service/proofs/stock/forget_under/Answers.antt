@@ -1,19 +1,16 @@
-use Rattle.std.proofs.Common.{◌≡◌, false, true, Some, sym, ◌∙◌, ap, refl}
+use Rattle.std.proofs.Common.{◌≡◌, false, true, Some, sym, ◌∙◌, ap, refl, arith, rules}
 use Rattle.std.specs.Prelude.{is_some}
 use Rattle.std.specs.Arc.{arc_value}
 use Rattle.std.specs.Map.{lookup}
 use Rattle.upload_service.specs.Machine.{same}
-use Rattle.upload_service.specs.Kept.Stock.{is_held, is_held_alone}
+use Rattle.upload_service.specs.Kept.Stock.{is_held_alone}
 use Rattle.upload_service.specs.declared.stock.Item.{Item}
 use Rattle.upload_service.proofs.Keeping.Forgetting.{blob_stays, held_absent, blob_gone, held_gone}
 use Rattle.upload_service.proofs.Keeping.Stocked.{blob_same, held_less}
 use Rattle.upload_service.proofs.stock.forget_under.Goals as goal
 
 pub returns-in_default-clause-held : goal.returns-in_default-clause-held
-returns-in_default-clause-held _ c = λ q n.
-    (λ i. is_held n (lookup (same q) (c.get_mut.follows.holds-at-none i).entries))
-    ∙ held_absent c.args.items.now.entries c.args.key.now (arc_value c.args.name.now)
-    (ap (is_held (arc_value c.args.name.now)) (sym c.in_default.ensures.value)) q n
+returns-in_default-clause-held _ c = search (rules, arith, held_absent)
 
 pub returns-then-not-remove-clause-blobs : goal.returns-then-not-remove-clause-blobs
 returns-then-not-remove-clause-blobs _ c =

@@ -1,4 +1,5 @@
-use Rattle.std.proofs.Common.{◌≡◌, ◌≢◌, ◌+◌, ◌<◌, ◌^◌, ◌++◌, List, ℕ, length, sym, ◌∙◌, ap, subst, refl, Some}
+use Rattle.std.proofs.Common.{rules}
+use Rattle.std.proofs.Common.{◌≡◌, ◌≢◌, ◌++◌, List, ℕ, sym, ◌∙◌, ap, subst, refl, arith}
 use Rattle.std.specs.Prelude.{is_some}
 use Rattle.std.specs.FinMap as map
 use Rattle.std.proofs.lemmas.Bool.{true≢false}
@@ -13,12 +14,7 @@ pub returns-in-Err-clause-turn : goal.returns-in-Err-clause-turn
 returns-in-Err-clause-turn g c = does _ _ _ (Replies c.in-Err.answer) _ _ (c.in-Err.ensures.err.close c.args.digest) refl refl
 
 pub returns-in_default-clause-turn : goal.returns-in_default-clause-turn
-returns-in_default-clause-turn g c =
-    let last = c.in-Ok.placed in
-    let blob : List ℕ = c.in-Ok.ensures.ok.session.received ++ last.body in
-    let done : Digest → Outcome = λ q. Commits last.name last.at q blob in
-    does _ _ _ (refused refusals.NoDigest) _ _
-    (c.in-Ok.ensures.ok.close c.args.digest ∙ ap (λ d. checked d blob done) c.in_default.is) refl refl
+returns-in_default-clause-turn g c = search (rules, arith, does)
 
 pub has_digest-matches-requires : goal.has_digest-matches-requires
 has_digest-matches-requires g c = ap is_some c.in-Ok.ensures.ok.is_open
@@ -40,18 +36,10 @@ returns-then-not-matches-clause-turn g c =
     (ap (λ t. state_of (record c.args.tables.now { sessions = t })) c.has_digest-matches.ensures.same)
 
 pub commit-requires-clause-open : goal.commit-requires-clause-open
-commit-requires-clause-open g c =
-    ap (λ (m : Table Session). is_some (map.get m c.in-Ok.placed.at)) c.has_digest-matches.ensures.same
-    ∙ ap is_some c.in-Ok.ensures.ok.is_open
+commit-requires-clause-open g c = search (rules, arith)
 
 pub commit-requires-clause-fits : goal.commit-requires-clause-fits
-commit-requires-clause-fits g c = λ session e.
-    let both : Some c.in-Ok.ensures.ok.session ≡ Some session =
-    sym c.in-Ok.ensures.ok.is_open
-    ∙ sym (ap (λ (m : Table Session). map.get m c.in-Ok.placed.at) c.has_digest-matches.ensures.same) ∙ e in
-    let is : c.in-Ok.ensures.ok.session ≡ session = cc in
-    subst (λ (s : Session). length s.received + length c.in-Ok.placed.body < 2 ^ 64) is
-    (subst (λ n. n + length c.in-Ok.placed.body < 2 ^ 64) c.in-Ok.ensures.ok.is_next c.in-Ok.ensures.ok.fits)
+commit-requires-clause-fits g c = search (rules, arith)
 
 pub returns-clause-turn : goal.returns-clause-turn
 returns-clause-turn g c =

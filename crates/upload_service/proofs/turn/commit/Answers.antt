@@ -1,3 +1,4 @@
+use Rattle.std.proofs.Common.{arith, rules}
 use Rattle.std.proofs.Common.{◌≡◌, ℕ, ◌+◌, ◌<◌, ◌^◌, List, ◌++◌, [], length, Some, None, refl, sym, ◌∙◌, ap, subst}
 use Rattle.std.specs.Prelude.{is_some, IsSome, box_value}
 use Rattle.std.specs.FinMap as map
@@ -44,9 +45,7 @@ of_received-blob-requires c =
     ] c.requires.open c.in-Some.ensures.taken c.requires.fits
 
 pub put-requires : goal.put-requires
-put-requires c =
-    ap (λ (m : FinMap digest_cmp (List ℕ)). is_some (map.get m c.args.digest)) c.in-Ok-hold.ensures.blobs
-    ∙ ap is_some (blob-insert_same c.args.tables.now.stock.blobs c.args.digest _)
+put-requires c = search (rules, arith, blob-insert_same)
 
 pub returns-clause-turn : goal.returns-clause-turn
 returns-clause-turn c = λ now session e.

@@ -1,4 +1,4 @@
-use Rattle.std.proofs.Common.{◌+◌, ◌<◌, ◌^◌, sym, subst, refl, arith}
+use Rattle.std.proofs.Common.{sym, arith, rules}
 use Rattle.upload_service.specs.Machine.{Session}
 use Rattle.upload_service.specs.Kept.Tables.{state_of}
 use Rattle.upload_service.specs.Kept.Entries.{session_of}
@@ -10,12 +10,7 @@ returns-in_default-clause-err c =
     nowhere (state_of c.args.tables.now) c.args.now c.args.sent c.in_default.ensures.none
 
 pub returns-in-Fits-clause-ok : goal.returns-in-Fits-clause-ok
-returns-in-Fits-clause-ok c =
-    let session : Session = session_of c.in-Some.session.now in
-    placed_there (state_of c.args.tables.now) c.args.now c.args.sent session c.len-next.result
-    c.in-Some.ensures.found c.in-Some.ensures.named c.len-next.ensures
-    (subst (λ n. c.len-next.result + n < 2 ^ 64) c.len-size.ensures (omega (arith, c.in-Fits.ensures.small refl)))
-    (c.in-Fits.ensures.verdict c.args.sent.name c.args.sent.at c.args.sent.body (sym c.len-size.ensures))
+returns-in-Fits-clause-ok c = search (rules, arith, placed_there)
 
 pub returns-in-Misplaced-clause-err : goal.returns-in-Misplaced-clause-err
 returns-in-Misplaced-clause-err c =

@@ -1,16 +1,13 @@
-use Rattle.std.proofs.Common.{sym, ◌∙◌, ap, refl}
-use Rattle.upload_service.specs.Machine.{Replies, refused, Session}
+use Rattle.std.proofs.Common.{sym, ◌∙◌, ap, refl, arith, rules}
+use Rattle.upload_service.specs.Machine.{Replies, Session}
 use Rattle.upload_service.specs.Kept.Entries.{session_of}
-use Rattle.upload_service.specs.declared.answer.Refusal.TheVariants as refusals
 use Rattle.upload_service.specs.declared.answer.Answer.TheVariants as answers
 use Rattle.upload_service.proofs.UploadView.{named}
 use Rattle.upload_service.proofs.Serving.{does, none_named}
 use Rattle.upload_service.proofs.turn.status.Goals as goal
 
 pub returns-in_default : goal.returns-in_default
-returns-in_default c =
-    does _ _ _ (refused refusals.NoUpload) _ _
-    (none_named c.args.tables.now.limits.max_blob _ c.args.name c.args.at _ c.in_default.ensures.none) refl refl
+returns-in_default c = search (rules, arith, does, none_named)
 
 pub returns : goal.returns
 returns c =

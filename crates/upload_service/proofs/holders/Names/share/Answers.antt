@@ -1,5 +1,5 @@
-use Rattle.std.proofs.Common.{sym, ◌∙◌, ap}
-use Rattle.std.specs.Prelude.{is_some, ◌||◌}
+use Rattle.std.proofs.Common.{sym, ◌∙◌, ap, arith, rules}
+use Rattle.std.specs.Prelude.{◌||◌}
 use Rattle.std.specs.List.{list_any}
 use Rattle.std.proofs.lemmas.Result.{IfOk-weaker}
 use Rattle.upload_service.specs.Machine.{same}
@@ -13,9 +13,7 @@ returns-in-Some-clause-shared c =
     c.try_clone.ensures
 
 pub returns-in-Some-clause-known : goal.returns-in-Some-clause-known
-returns-in-Some-clause-known c = always c.try_clone.result
-    (ap (list_any (same c.args.name.now)) (sym c.self.view_is)
-    ∙ any_key (same c.args.name.now) c.self.inside.shared.entries ∙ ap is_some (sym c.in-Some.ensures.value))
+returns-in-Some-clause-known c = search (rules, arith, always, any_key)
 
 pub invariant_of-self-2 : goal.invariant_of-self-2
 invariant_of-self-2 c =
@@ -24,8 +22,7 @@ invariant_of-self-2 c =
 
 pub returns-clause-known : goal.returns-clause-known
 returns-clause-known c =
-    new_key c.self.inside.shared.entries c.insert.new.self.entries c.in_ok-kept.kept c.in-Ok.shared
-    c.in_ok-insert.ensures.updates.0 c.args.name.now c.in_ok-kept.ensures
+    cc (new_key c.self.inside.shared.entries c.insert.new.self.entries c.in_ok-kept.kept c.in-Ok.shared c.in_ok-insert.ensures.updates.0 c.args.name.now c.in_ok-kept.ensures)
 
 pub returns-clause-kept : goal.returns-clause-kept
 returns-clause-kept c = λ q e.
@@ -33,10 +30,7 @@ returns-clause-kept c = λ q e.
     c.in_ok-insert.ensures.updates.0 q (ap (list_any (same q)) c.self.view_is ∙ e)
 
 pub returns-in-Some-clause-names : goal.returns-in-Some-clause-names
-returns-in-Some-clause-names c = always c.try_clone.result
-    (known_one c.args.self.now c.args.name.now
-    (ap (list_any (same c.args.name.now)) (sym c.self.view_is)
-    ∙ any_key (same c.args.name.now) c.self.inside.shared.entries ∙ ap is_some (sym c.in-Some.ensures.value)))
+returns-in-Some-clause-names c = search (rules, arith, always, known_one, any_key)
 
 pub returns-clause-names : goal.returns-clause-names
 returns-clause-names c = λ q.

@@ -1,6 +1,5 @@
-use Rattle.std.proofs.Common.{sym, ◌∙◌, subst}
+use Rattle.std.proofs.Common.{sym, subst, arith, rules}
 use Rattle.upload_service.specs.Machine.{State, IsLawful}
-use Rattle.upload_service.specs.Forgotten.{forgotten}
 use Rattle.upload_service.specs.Kept.Tables.{state_of}
 use Rattle.upload_service.proofs.Forgotten.{lawful_forgotten}
 use Rattle.upload_service.proofs.service.Service.forget.Goals as goal
@@ -22,7 +21,4 @@ returns-clause-lawful c =
     (lawful_forgotten s c.args.name.now c.args.digest.now c.self.invariant.state)
 
 pub returns-clause-forgets : goal.returns-clause-forgets
-returns-clause-forgets c =
-    let s : State = state_of c.self.inside.tables in
-    (λ i. record s { blobs = c.forget.ensures.blobs i; pairs = c.forget.ensures.pairs i })
-    ∙ (λ i. forgotten (c.self.view_is i) c.args.name.now c.args.digest.now)
+returns-clause-forgets c = search (rules, arith)

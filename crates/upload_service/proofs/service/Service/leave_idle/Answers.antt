@@ -1,4 +1,4 @@
-use Rattle.std.proofs.Common.{◌≡◌, ◌≤◌, sym, subst}
+use Rattle.std.proofs.Common.{◌≤◌, sym, subst}
 use Rattle.std.specs.FinMap as map
 use Rattle.upload_service.specs.Machine.{State, Table, Session, IsLawful, all_awake}
 use Rattle.upload_service.specs.Kept.Tables.{state_of}

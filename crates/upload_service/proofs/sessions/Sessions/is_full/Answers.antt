@@ -1,5 +1,4 @@
 use Rattle.std.proofs.Common.{◌≡◌, ◌+◌, length, filter, not, refl, sym, ◌∙◌, ap, arith}
-use Rattle.std.specs.Prelude.{nat_le}
 use Rattle.std.specs.FinMap as map
 use Rattle.std.proofs.lemmas.Bool.{lt-leb}
 use Rattle.std.proofs.lemmas.List.Filters.{length-filter_both}
@@ -22,8 +21,4 @@ returns-then-len-limits c =
     (omega (arith, c.len.ensures.len)))
 
 pub returns : goal.returns
-returns c =
-    ap (nat_le c.args.limits.max_open)
-    (c.count_awake.ensures
-    ∙ sym (len_awake c.args.limits.max_idle c.args.now c.self.inside.open.entries c.len.ensures.ordered)
-    ∙ ap (λ (m : Table Session). map.len (awake_of c.args.limits.max_idle c.args.now m)) c.self.view_is)
+returns c = cc (len_awake c.args.limits.max_idle c.args.now c.self.inside.open.entries c.len.ensures.ordered)

@@ -1,18 +1,14 @@
-use Rattle.std.proofs.Common.{◌≡◌, ◌+◌, ◌≤◌, length, filter, not, refl, ap, sym, ◌∙◌, arith}
+use Rattle.std.proofs.Common.{◌≡◌, ◌+◌, length, filter, not, refl, ap, ◌∙◌, arith, rules}
 use Rattle.std.specs.Cmp.Lexicographic.{nat_list_cmp_total}
 use Rattle.std.specs.FinMap as map
 use Rattle.std.proofs.lemmas.List.Filters.{length-filter_both}
-use Rattle.upload_service.specs.Machine.{Table, Session, awake_of}
 use Rattle.upload_service.specs.Kept.Entries.{session_of, is_kept}
 use Rattle.upload_service.proofs.Keeping.Kept.{len-kept}
 use Rattle.upload_service.proofs.Keeping.Swept.{keys_exact, table, table_awake, len_awake}
 use Rattle.upload_service.proofs.sessions.Sessions.leave_idle.Goals as goal
 
 pub returns-clause-awake : goal.returns-clause-awake
-returns-clause-awake c =
-    ap table c.sweep.ensures
-    ∙ table_awake c.args.max_idle c.args.now c.self.inside.open.entries c.len.ensures.ordered
-    ∙ ap (λ (m : Table Session). awake_of c.args.max_idle c.args.now m) c.self.view_is
+returns-clause-awake c = search (rules, arith, table, table_awake)
 
 pub returns-clause-fewer : goal.returns-clause-fewer
 returns-clause-fewer c =

@@ -1,66 +1,32 @@
-use Rattle.std.proofs.Common.{◌≡◌, sym, ◌∙◌, ap}
-use Rattle.std.specs.FinMap as map
-use Rattle.std.specs.FinSet as set
-use Rattle.std.specs.Map.{lookup}
+use Rattle.std.proofs.lemmas.Grind.{common_steps}
+use Rattle.std.proofs.Common.{◌∙◌, ap, arith}
 use Rattle.std.specs.List.{list_any}
 use Rattle.std.specs.Arc.{arc_value}
 use Rattle.std.proofs.lemmas.Result.{on_ok_weaker, on_err_weaker}
 use Rattle.upload_service.specs.Machine.{same}
-use Rattle.upload_service.specs.Kept.Stock.{blob_in, or_empty, Stocked}
+use Rattle.upload_service.specs.Kept.Stock.{Stocked}
 use Rattle.upload_service.proofs.Keeping.Stocked.{get_sha256, get_sha512, kept_sha256, kept_sha512, blobs_sha256}
 use Rattle.upload_service.proofs.Keeping.Stocked.{blobs_sha512}
 use Rattle.upload_service.proofs.Keeping.Stocked.{pairs_sha256, pairs_sha512, after_either, one_more_known, still_known}
 use Rattle.upload_service.proofs.stock.Stock.hold.Goals as goal
 
 pub returns-in-Sha256-clause-blobs : goal.returns-in-Sha256-clause-blobs
-returns-in-Sha256-clause-blobs c =
-    let at : blob_in (lookup (same c.in-Sha256.key) c.self.inside.sha256.entries)
-    ≡ map.get c.args.self.now.blobs c.args.digest =
-    sym (get_sha256 c.self.inside.sha256.entries c.self.inside.sha512.entries c.in-Sha256.key)
-    ∙ (λ i. map.get (c.self.view_is i).blobs (c.in-Sha256.ensures i)) in
-    on_ok_weaker c.hold_under.result (λ more.
-    blobs_sha256 c.self.inside.sha256.entries c.hold_under.new.items.entries c.self.inside.sha512.entries
-    c.in-Sha256.key _ more
-    ∙ (λ i. map.insert (c.self.view_is i).blobs (c.in-Sha256.ensures i) (or_empty (at i)))) c.hold_under.ensures.blobs
+returns-in-Sha256-clause-blobs c = grind (arith, common_steps, get_sha256, on_ok_weaker, blobs_sha256)
 
 pub returns-in-Sha256-clause-pairs : goal.returns-in-Sha256-clause-pairs
-returns-in-Sha256-clause-pairs c =
-    on_ok_weaker c.hold_under.result (λ more.
-    pairs_sha256 c.self.inside.sha256.entries c.hold_under.new.items.entries c.self.inside.sha512.entries
-    c.in-Sha256.key _ more
-    ∙ (λ i. set.insert (c.self.view_is i).pairs (c.in-Ok.ensures.shared i, c.in-Sha256.ensures i)))
-    c.hold_under.ensures.held
+returns-in-Sha256-clause-pairs c = grind (arith, common_steps, on_ok_weaker, pairs_sha256)
 
 pub returns-in-Sha256-clause-err : goal.returns-in-Sha256-clause-err
-returns-in-Sha256-clause-err c =
-    on_err_weaker c.hold_under.result (λ kept. kept_sha256 c.self.inside.sha256.entries c.hold_under.new.items.entries
-    c.self.inside.sha512.entries kept ∙ c.self.view_is) c.hold_under.ensures.err
+returns-in-Sha256-clause-err c = grind (arith, on_err_weaker, kept_sha256)
 
 pub returns-in-Sha512-clause-blobs : goal.returns-in-Sha512-clause-blobs
-returns-in-Sha512-clause-blobs c =
-    let at : blob_in (lookup (same c.in-Sha512.key) c.self.inside.sha512.entries)
-    ≡ map.get c.args.self.now.blobs c.args.digest =
-    sym (get_sha512 c.self.inside.sha256.entries c.self.inside.sha512.entries c.in-Sha512.key)
-    ∙ (λ i. map.get (c.self.view_is i).blobs (c.in-Sha512.ensures i)) in
-    on_ok_weaker c.hold_under-in-Sha512.result (λ more.
-    blobs_sha512 c.self.inside.sha256.entries c.self.inside.sha512.entries c.hold_under-in-Sha512.new.items.entries
-    c.in-Sha512.key _ more
-    ∙ (λ i. map.insert (c.self.view_is i).blobs (c.in-Sha512.ensures i) (or_empty (at i))))
-    c.hold_under-in-Sha512.ensures.blobs
+returns-in-Sha512-clause-blobs c = grind (arith, common_steps, get_sha512, on_ok_weaker, blobs_sha512)
 
 pub returns-in-Sha512-clause-pairs : goal.returns-in-Sha512-clause-pairs
-returns-in-Sha512-clause-pairs c =
-    on_ok_weaker c.hold_under-in-Sha512.result (λ more.
-    pairs_sha512 c.self.inside.sha256.entries c.self.inside.sha512.entries c.hold_under-in-Sha512.new.items.entries
-    c.in-Sha512.key _ more
-    ∙ (λ i. set.insert (c.self.view_is i).pairs (c.in-Ok.ensures.shared i, c.in-Sha512.ensures i)))
-    c.hold_under-in-Sha512.ensures.held
+returns-in-Sha512-clause-pairs c = grind (arith, common_steps, on_ok_weaker, pairs_sha512)
 
 pub returns-in-Sha512-clause-err : goal.returns-in-Sha512-clause-err
-returns-in-Sha512-clause-err c =
-    on_err_weaker c.hold_under-in-Sha512.result (λ kept. kept_sha512 c.self.inside.sha256.entries
-    c.self.inside.sha512.entries c.hold_under-in-Sha512.new.items.entries kept ∙ c.self.view_is)
-    c.hold_under-in-Sha512.ensures.err
+returns-in-Sha512-clause-err c = grind (arith, on_err_weaker, kept_sha512)
 
 pub invariant_of-self-in-Sha256 : goal.invariant_of-self-in-Sha256
 invariant_of-self-in-Sha256 c =
