@@ -1,4 +1,5 @@
 -- What comes back of a file that ends before batches that count.
+use Rattle.std.proofs.lemmas.Grind.{common_steps}
 use Rattle.std.proofs.Common.{◌≡◌, ℕ, ◌+◌, ◌<◌, ◌≤◌, List, [], ◌++◌, length, take, drop, slice_index, Some}
 use Rattle.std.proofs.Common.{sym, ◌∙◌, ap, arith, length-take, length-drop}
 use Rattle.std.proofs.lemmas.List.{drop-drop, take_all}
@@ -46,19 +47,21 @@ module _ (file : List ℕ) (end count : ℕ) (begins : sector ≤ end) (ends : E
 pub reopened : (old new : List ℕ) (end count : ℕ) (found : Kept × List ℕ) → staged count (drop end old) ≡ Some found
     → Torn end sector old new → slice_index new end ≡ 1 → next count (drop end new) ≡ Some found
 reopened old new end count found is torn open_gate =
-    let less = staged_less count (drop end old) found is in
-    let within : end + sector ≤ length old = omega (arith, less, length-drop end old) in
-    next_open count (drop end new) (first_at_end new end ∙ open_gate)
-    ∙ ap (behind count) (drop-drop sector end new ∙ same_back end sector old new torn within
-    ∙ sym (drop-drop sector end old))
-    ∙ is
+    grind (
+      arith,
+      staged_less count (drop end old) found is,
+      length-drop end old,
+      next_open count (drop end new) (first_at_end new end ∙ open_gate),
+      first_at_end new end,
+      drop-drop sector end new,
+      same_back end sector old new torn,
+      drop-drop sector end old,
+    )
 
 -- the head of a batch stays as its gate is opened
 pub head_stays : (old new : List ℕ) (end count : ℕ) (found : Kept × List ℕ) → staged count (drop end old) ≡ Some found
     → Torn end sector old new → head_at new end ≡ head_at old end
-head_stays old new end count found is torn =
-    let less = staged_less count (drop end old) found is in
-    ap (λ (l : List ℕ). take 32 l) (same_back end sector old new torn (omega (arith, less, length-drop end old)))
+head_stays old new end count found is torn = grind (arith, common_steps, staged_less, same_back, length-drop)
 
 -- a batch behind its head, whatever its records are
 pub behind_head : (number : ℕ) (head file : List ℕ) → (number_in head ≡ number) × (sum_in head ≡ sum_here head)

@@ -1,6 +1,6 @@
 -- Records that are added to a batch.
 use Rattle.std.proofs.Common.{◌≡◌, ◌⊎◌, inl, inr, ℕ, ◌<◌, ◌^◌, List, [], ◌∷◌, ◌++◌, length, Result, Ok, Err, OnOk}
-use Rattle.std.proofs.Common.{OnErr, sym, ◌∙◌, ap}
+use Rattle.std.proofs.Common.{OnErr, sym, ◌∙◌, ap, arith, rules}
 use Rattle.std.proofs.lemmas.List.{append-nil}
 use Rattle.std.proofs.lemmas.List.Elements.{All-push, All-nil, All-same}
 use Rattle.std.proofs.lemmas.List.Concat.{flat_map-append}
@@ -21,9 +21,7 @@ records_of_blocks recorded short =
     ∙ ap (λ (rs : List (List ℕ)). recorded ++ rs) records_nil ∙ append-nil recorded
 
 pub is_batch : (bytes : List ℕ) (recorded : List (List ℕ)) → bytes ≡ blocks recorded → AreShort recorded → IsBatch bytes
-is_batch bytes recorded is short =
-    let same : records bytes ≡ recorded = ap records is ∙ records_of_blocks recorded short in
-    record { whole = is ∙ ap blocks (sym same); short = All-same IsShort (records bytes) recorded same short }
+is_batch bytes recorded is short = search (rules, arith, records_of_blocks, All-same)
 
 pub no_batch : (bytes : List ℕ) → bytes ≡ [] → IsBatch bytes
 no_batch bytes is = is_batch bytes [] is (All-nil IsShort)
@@ -31,10 +29,7 @@ no_batch bytes is = is_batch bytes [] is (All-nil IsShort)
 module _ (old new r : List ℕ) (whole : old ≡ blocks (records old)) (short : AreShort (records old))
     (fits : length r < 2 ^ 64) (added : new ≡ old ++ block r) where
   pushed_blocks : new ≡ blocks (records old ++ r ∷ [])
-  pushed_blocks =
-      added ∙ ap (λ (l : List ℕ). l ++ block r) whole ∙ ap (λ (l : List ℕ). blocks (records old) ++ l)
-      (sym (append-nil (block r)))
-      ∙ sym (flat_map-append block (records old) (r ∷ []))
+  pushed_blocks = search (rules, arith, append-nil, flat_map-append)
 
   pushed_short : AreShort (records old ++ r ∷ [])
   pushed_short = All-push IsShort (records old) r short fits

@@ -1,21 +1,12 @@
 -- A cause that is told of a part of a call is one of the whole.
-use Rattle.std.proofs.Common.{◌≡◌, true, Result, Ok, Err, IfErr, is_err}
+use Rattle.std.proofs.Common.{◌≡◌, true, Result, Ok, Err, IfErr, is_err, arith, rules}
 use Rattle.journal.specs.declared.error.Error.{Error}
-use Rattle.journal.specs.declared.error.Error.TheVariants.{Closed, NotAJournal, OtherVersion, OtherParameters}
-use Rattle.journal.specs.declared.error.Error.TheVariants.{TooLong, NoMemory, Disk, Machine}
 use Rattle.journal.specs.Errors.{Because, WhyNot, Never}
 
 pub because_weaker : (closed closed2 other other2 long long2 disk disk2 machine machine2 : Type 0) →
     (closed → closed2) → (other → other2) → (long → long2) → (disk → disk2) → (machine → machine2)
     → (error : Error) → Because closed other long disk machine error → Because closed2 other2 long2 disk2 machine2 error
-because_weaker closed closed2 other other2 long long2 disk disk2 machine machine2 a b c d e Closed why = a why
-because_weaker closed closed2 other other2 long long2 disk disk2 machine machine2 a b c d e NotAJournal why = b why
-because_weaker closed closed2 other other2 long long2 disk disk2 machine machine2 a b c d e OtherVersion why = b why
-because_weaker closed closed2 other other2 long long2 disk disk2 machine machine2 a b c d e OtherParameters why = b why
-because_weaker closed closed2 other other2 long long2 disk disk2 machine machine2 a b c d e TooLong why = c why
-because_weaker closed closed2 other other2 long long2 disk disk2 machine machine2 a b c d e NoMemory why = why
-because_weaker closed closed2 other other2 long long2 disk disk2 machine machine2 a b c d e (Disk error) why = d why
-because_weaker closed closed2 other other2 long long2 disk disk2 machine machine2 a b c d e (Machine error) why = e why
+because_weaker closed closed2 other other2 long long2 disk disk2 machine machine2 h1 h2 h3 h4 h5 error h6 = search (rules, arith)
 
 pub if_err_weaker : {T : Type 0} (result : Result T Error) (P Q : Error → Type 0) →
     ((error : Error) → P error → Q error) → IfErr result P → IfErr result Q
@@ -28,14 +19,7 @@ never P false_is = absurd (cc false_is)
 -- what follows from each cause follows
 pub why_not : (closed long disk same goal : Type 0) → (closed → goal) → (long → goal) → (disk → goal) → (error : Error)
     → WhyNot closed long disk same error → goal
-why_not closed long disk same goal a b c Closed why = a why.0
-why_not closed long disk same goal a b c NotAJournal why = never goal why
-why_not closed long disk same goal a b c OtherVersion why = never goal why
-why_not closed long disk same goal a b c OtherParameters why = never goal why
-why_not closed long disk same goal a b c TooLong why = b why.0
-why_not closed long disk same goal a b c NoMemory why = never goal why
-why_not closed long disk same goal a b c (Disk error) why = c why
-why_not closed long disk same goal a b c (Machine error) why = never goal why
+why_not closed long disk same goal h1 h2 h3 error h4 = search (rules, arith, never)
 
 pub if_err_told : {T : Type 0} (result : Result T Error) (P : Error → Type 0) → is_err result ≡ true → IfErr result P
     → (error : Error) × P error

@@ -1,5 +1,5 @@
 -- What a crash leaves in each step of a commit.
-use Rattle.std.proofs.Common.{◌≡◌, ◌≢◌, inl, inr, ℕ, ◌+◌, ◌-◌, ◌<◌, ◌≤◌, ◌^◌, max, List, [], ◌∷◌}
+use Rattle.std.proofs.Common.{◌≡◌, ◌≢◌, inl, inr, ℕ, ◌+◌, ◌-◌, ◌<◌, ◌≤◌, ◌^◌, max, List, [], ◌∷◌, rules}
 use Rattle.std.proofs.Common.{◌++◌, length, take, drop, slice_index, Some, None, sym, ◌∙◌, ap, subst}
 use Rattle.std.proofs.Common.{arith, append_assoc, length-append, length-take, length-drop, take-append-drop}
 use Rattle.std.proofs.Common.{get_or-drop, get_or-take}
@@ -25,8 +25,7 @@ behind_line line body rest file end long front =
     ∙ drop_at line (body ++ drop end file) sector long
 
 pub first_at_end : (file : List ℕ) (end : ℕ) → slice_index (drop end file) 0 ≡ slice_index file end
-first_at_end file end =
-    let same : end + 0 ≡ end = omega arith in get_or-drop end file 0 0 ∙ ap (λ (n : ℕ). slice_index file n) same
+first_at_end file end = search (rules, arith, get_or-drop, slice_index)
 
 -- a file at rest by its parts, and from them
 pub record Parts (line : List ℕ) (all : List Kept) (end : ℕ) (file : List ℕ) : Type 0 where
@@ -51,26 +50,14 @@ parts line all end len file rests = record {
 pub rests_of : (line : List ℕ) (all : List Kept) (end len : ℕ) (file : List ℕ) → Parts line all end file → end < len →
     len ≤ length file → slice_index file end ≢ 1 → Rests line all end len file
 rests_of line all end len file p within there shut =
-    let begins : sector ≤ end = omega (
+    grind (
       arith,
-      ap length p.front,
-      p.line_long,
       length-append line p.body,
-      length-take
-          end file,
-    ) in
-    let body_is : drop sector (take end file) ≡ p.body = ap (λ (l : List ℕ). drop sector l) p.front ∙ drop_at line
-    p.body sector p.line_long in
-    record {
-      front =
-          sym (take_within file 0 sector end begins) ∙ ap (λ (l : List ℕ). take sector l) p.front ∙ take_at line
-          p.body sector p.line_long;
-      begins = begins;
-      lie = subst (λ (b : List ℕ). Lie 0 b all) (sym body_is) p.lie;
-      within = within;
-      there = there;
-      shut = shut;
-    }
+      length-take end file,
+      drop_at line p.body sector p.line_long,
+      take_within file 0 sector end,
+      take_at line p.body sector p.line_long,
+    )
 
 pub stored_rests : (line : List ℕ) (all : List Kept) (end len : ℕ) (file : List ℕ) → Rests line all end len file →
     stored file ≡ all
@@ -86,8 +73,7 @@ zero_shuts file gate none is = let never : 0 ≡ 1 = sym none ∙ is in absurd (
 
 pub first_held : (file : List ℕ) (at : ℕ) (bytes : List ℕ) → Holds file at bytes → 0 < length bytes → slice_index file
     at ≡ slice_index bytes 0
-first_held file at bytes holds some =
-    let here : at + 0 ≡ at = omega arith in ap (λ (n : ℕ). slice_index file n) (sym here) ∙ holds.each 0 some
+first_held file at bytes holds some = search (rules, arith, slice_index)
 
 -- a write behind the gate leaves what the file stands for
 pub still_rests : (line : List ℕ) (all : List Kept) (end len at n : ℕ) (old new : List ℕ) → end < at → Torn at n old
@@ -110,25 +96,10 @@ all_rest line all end len at n old new past follows each c left =
     still_rests line all end len at n from.0 c past from.2 (each from.0 from.1)
 
 pub numbers_long : (number time len : ℕ) → length (numbers number time len) ≡ 24
-numbers_long number time len =
-    omega (
-      arith,
-      length-append (number_bytes number) (number_bytes time ++ number_bytes len),
-      length-append (number_bytes time) (number_bytes len),
-      length-number_bytes number,
-      length-number_bytes time,
-      length-number_bytes len,
-    )
+numbers_long number time len = simp (length-append, length-number_bytes)
 
 pub head_long : (number time len : ℕ) → length (head number time len) ≡ 32
-head_long number time len =
-    let all = numbers number time len in
-    omega (
-      arith,
-      length-append all (number_bytes (sum_of all)),
-      numbers_long number time len,
-      length-number_bytes (sum_of all),
-    )
+head_long number time len = simp (length-append, numbers_long, length-number_bytes)
 
 sum_fits : (bytes : List ℕ) → sum_of bytes < 2 ^ 64
 unfolding sum_of
@@ -163,14 +134,10 @@ module _ (number time : ℕ) (bytes pad : List ℕ) (number_fits : number < 2 ^ 
   from_time = number_bytes time ++ from_length
 
   in_front : it ≡ all_numbers ++ from_sum
-  in_front =
-      append_assoc (head number time (length bytes)) bytes pad ∙ append_assoc all_numbers (number_bytes sum) behind_head
+  in_front = simp append_assoc
 
   split : it ≡ number_bytes number ++ from_time
-  split =
-      in_front ∙ append_assoc (number_bytes number) (number_bytes time ++ number_bytes (length bytes)) from_sum
-      ∙ ap (λ (l : List ℕ). number_bytes number ++ l)
-      (append_assoc (number_bytes time) (number_bytes (length bytes)) from_sum)
+  split = simp (in_front, append_assoc)
 
   -- a number at the front is read, and what follows it
   read_off : (at n : ℕ) (rest : List ℕ) → n < 2 ^ 64 → drop at it ≡ number_bytes n ++ rest
@@ -224,13 +191,10 @@ module _ (gate number time : ℕ) (bytes first second : List ℕ) (number_fits :
     text = head number time (length bytes) ++ bytes
 
     text_long : length text ≡ 32 + length bytes
-    text_long =
-        omega (arith, length-append (head number time (length bytes)) bytes, head_long number time (length bytes))
+    text_long = cc (length-append (head number time (length bytes)) bytes, head_long number time (length bytes))
 
     still : Holds second (gate + sector) text
-    still =
-        holds_still (gate + sector) after_it sector text first second
-        (let w = is_whole (32 + length bytes) in omega (arith, text_long, w.no_less)) torn holds
+    still = search (rules, arith, holds_still, is_whole, text_long)
 
     abbrev place : List ℕ
     place = drop (gate + sector) second
@@ -255,16 +219,7 @@ module _ (gate number time : ℕ) (bytes first second : List ℕ) (number_fits :
     region_long = omega (arith, length-take width place, length-drop (gate + sector) second, fits)
 
     pub staged : IsStaged gate after_it number (time, records bytes) second
-    staged = record {
-      is =
-          let n_is : after_it - (gate + sector) ≡ width = omega arith in
-          ap (λ (n : ℕ). behind number (take n place)) n_is ∙ ap (behind number) region
-          ∙ behind_written number time bytes (take fills (drop (length text) place)) number_fits time_fits long
-          (ap length (sym region) ∙ region_long);
-      after = let w = is_whole (32 + length bytes) in omega (arith, w.no_less);
-      within = fits;
-      shut = gate_shut;
-    }
+    staged = search (rules, arith, region, behind_written, region_long, is_whole)
 
 -- the gate of a batch that is in its place
 module _ (line : List ℕ) (old : List Kept) (gate len after_it : ℕ) (added : Kept) (file : List ℕ)
@@ -338,16 +293,7 @@ module _ (line : List ℕ) (old : List Kept) (gate len after_it : ℕ) (added : 
 
 pub rests_longer : (line : List ℕ) (all : List Kept) (end len len2 : ℕ) (file : List ℕ) → Rests line all end len file
     → end < len2 → len2 ≤ length file → Rests line all end len2 file
-rests_longer line all end len len2 file rests within there =
-    record {
-      front = rests.front;
-      begins = rests.begins;
-      lie = rests.lie;
-      within = within;
-      there = there;
-      shut =
-          rests.shut;
-    }
+rests_longer line all end len len2 file rests within there = search (rules, arith, there)
 
 -- a whole commit: from a batch that lies behind its gate to what the write of the gate left
 module _ (line : List ℕ) (old : List Kept) (end len count time : ℕ) (bytes items staged_file now : List ℕ)
@@ -356,16 +302,10 @@ module _ (line : List ℕ) (old : List Kept) (end len count time : ℕ) (bytes i
     (count_is : count ≡ length old) (same : bytes ≡ items)
     (torn : Torn end sector staged_file now) where
   stage_here : IsStaged end (end + sector + whole (32 + length bytes)) (length old) (time, records items) staged_file
-  stage_here =
-      subst (λ (n : ℕ). IsStaged end (end + sector + whole (32 + length bytes)) n (time, records items) staged_file)
-      count_is
-      (subst (λ (l : List ℕ). IsStaged end (end + sector + whole (32 + length bytes)) count (time, records l)
-      staged_file) same stage)
+  stage_here = search (rules, arith)
 
   pub either : IsBeforeOrAfter old (time, records items) now
-  either =
-      before_or_after line old end len (end + sector + whole (32 + length bytes)) (time, records items) staged_file
-      rests stage_here now torn
+  either = search (rules, arith, before_or_after, stage_here)
 
   pub committed : slice_index now end ≡ 1 → (behind_it len2 : ℕ) → behind_it ≡ end + sector + whole
       (32 + length bytes) → len2 ≡ max len (behind_it + sector)
@@ -380,16 +320,7 @@ module _ (line : List ℕ) (old : List Kept) (end len count time : ℕ) (bytes i
 -- what the write of the gate leaves behind it
 pub staged_still : (gate next number : ℕ) (kept : Kept) (old new : List ℕ) → Torn gate sector old new → IsStaged gate
     next number kept old → IsStaged gate next number kept new
-staged_still gate next number kept old new torn staged = record {
-  is =
-      ap (λ (l : List ℕ). behind number (take (next - (gate + sector)) l))
-      (same_back gate sector old new torn (omega (arith, staged.within, staged.after)))
-      ∙ staged.is;
-  after = staged.after;
-  within = omega (arith, staged.within, torn.no_shorter);
-  shut = λ is.
-      staged.shut (sym (torn.above next (omega (arith, staged.within)) (omega (arith, staged.after))) ∙ is);
-}
+staged_still gate next number kept old new torn staged = search (rules, arith, same_back)
 
 -- the file still begins with its line
 pub front_stays : (line : List ℕ) (all : List Kept) (end len at : ℕ) (old new : List ℕ) → Rests line all end len old
@@ -416,8 +347,7 @@ ends_at line all end len count file rests is counted = record {
 -- a file at rest, of what another one stands for
 pub still_kept : (line : List ℕ) (all : List Kept) (end len : ℕ) (file left : List ℕ) → Rests line all end len file
     → Rests line all end len left → Rests line (stored file) end len left
-still_kept line all end len file left rests there =
-    subst (λ (l : List Kept). Rests line l end len left) (sym (stored_rests line all end len file rests)) there
+still_kept line all end len file left rests there = grind (arith, stored_rests line all end len file rests)
 
 pub kept_alone : (line : List ℕ) (all : List Kept) (end len : ℕ) (file left : List ℕ) → Rests line all end len file
     → left ≡ file → Rests line (stored file) end len left
@@ -427,9 +357,4 @@ kept_alone line all end len file left rests same =
 pub one_more : (line : List ℕ) (old : List Kept) (added : Kept) (end len : ℕ) (file : List ℕ) {count : ℕ}
     → count ≡ length old → Rests line (old ++ added ∷ []) end len file → count + 1 ≡ length (stored file)
 one_more line old added end len file counted rests =
-    omega (
-      arith,
-      counted,
-      ap length (stored_rests line (old ++ added ∷ []) end len file rests),
-      length-append old (added ∷ []),
-    )
+    cc (stored_rests line (old ++ added ∷ []) end len file rests, length-append old (added ∷ []))

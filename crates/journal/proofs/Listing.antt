@@ -1,6 +1,6 @@
 -- What batches stand for that lie one behind the other.
-use Rattle.std.proofs.Common.{◌≡◌, ◌≢◌, ◌⊎◌, inl, inr, ℕ, zero, suc, ◌+◌, ◌%◌, ◌<◌, ◌≤◌, Bool, true, false}
-use Rattle.std.proofs.Common.{cond, ◌&&◌, nat_le, eqb, List, [], ◌∷◌, ◌++◌, length, take, drop}
+use Rattle.std.proofs.Common.{◌≡◌, ◌≢◌, ◌⊎◌, inl, inr, ℕ, zero, suc, ◌+◌, ◌%◌, ◌<◌, ◌≤◌, Bool, true, false, rules}
+use Rattle.std.proofs.Common.{cond, ◌&&◌, nat_le, List, [], ◌∷◌, ◌++◌, length, take, drop}
 use Rattle.std.proofs.Common.{slice_index, Option, Some, None, refl, sym, ◌∙◌, ap, arith, append_assoc, length-append}
 use Rattle.std.proofs.Common.{length-take, length-drop, get_or-take}
 use Rattle.std.proofs.lemmas.List.{take-append-le, drop-append-le, get_or_append_left}
@@ -34,46 +34,26 @@ by_cases bytes number sum room = cond (number && (sum && room)) (Some (there byt
 pub behind_there : (number : ℕ) (bytes : List ℕ) → number_in bytes ≡ number → sum_in bytes ≡ sum_here bytes
     → span bytes ≤ length bytes → behind number bytes ≡ Some (there bytes)
 unfolding behind
-behind_there number bytes same sum fits =
-    (λ i. by_cases bytes (eq-eqb (number_in bytes) number same i) (eq-eqb (sum_in bytes) (sum_here bytes) sum i)
-    (le-leb (span bytes) (length bytes) fits i))
+behind_there number bytes same sum fits = simp (eq-eqb, le-leb)
 
 pub behind_other : (number : ℕ) (bytes : List ℕ) → number_in bytes ≢ number → behind number bytes ≡ None
 unfolding behind
-behind_other number bytes other =
-    elim (cases_Bool (eqb (number_in bytes) number)) [
-      | inl same ↦ absurd (other (eqb-true (number_in bytes) number same))
-      | inr not ↦ ap (λ (b : Bool). by_cases bytes b (eqb (sum_in bytes) (sum_here bytes))
-          (nat_le (span bytes) (length bytes))) not
-    ]
+behind_other number bytes other = search (rules, arith, cases_Bool, eqb-true, nat_le)
 
 none_anyway : (bytes : List ℕ) (b c : Bool) → by_cases bytes b false c ≡ None
 none_anyway bytes true c = refl
 none_anyway bytes false c = refl
 
 none_short : (bytes : List ℕ) (b c : Bool) → by_cases bytes b c false ≡ None
-none_short bytes true true = refl
-none_short bytes true false = refl
-none_short bytes false c = refl
+none_short bytes b c = search (rules, arith)
 
 pub behind_changed : (number : ℕ) (bytes : List ℕ) → sum_in bytes ≢ sum_here bytes → behind number bytes ≡ None
 unfolding behind
-behind_changed number bytes other =
-    let room = nat_le (span bytes) (length bytes) in
-    elim (cases_Bool (eqb (sum_in bytes) (sum_here bytes))) [
-      | inl same ↦ absurd (other (eqb-true (sum_in bytes) (sum_here bytes) same))
-      | inr not ↦
-          ap (λ (b : Bool). by_cases bytes (eqb (number_in bytes) number) b room) not
-          ∙ none_anyway bytes (eqb (number_in bytes) number) room
-    ]
+behind_changed number bytes other = search (rules, arith, nat_le, cases_Bool, eqb-true, none_anyway)
 
 pub behind_short : (number : ℕ) (bytes : List ℕ) → length bytes < span bytes → behind number bytes ≡ None
 unfolding behind
-behind_short number bytes short =
-    let same = eqb (number_in bytes) number in
-    let sum = eqb (sum_in bytes) (sum_here bytes) in
-    ap (λ (b : Bool). by_cases bytes same sum b) (lt-leb (span bytes) (length bytes) short)
-    ∙ none_short bytes same sum
+behind_short number bytes short = simp (lt-leb, none_short)
 
 -- a batch that is found, and why
 pub record IsThere (number : ℕ) (bytes : List ℕ) (found : Kept × List ℕ) : Type 0 where
@@ -85,22 +65,7 @@ pub record IsThere (number : ℕ) (bytes : List ℕ) (found : Kept × List ℕ) 
 pub is_there : (number : ℕ) (bytes : List ℕ) (found : Kept × List ℕ) → behind number bytes ≡ Some found → IsThere
     number bytes found
 is_there number bytes found is =
-    elim (cases_eq (number_in bytes) number) [
-      | inr other ↦ absurd (cc (sym (behind_other number bytes other) ∙ is))
-      | inl same ↦ elim (cases_eq (sum_in bytes) (sum_here bytes)) [
-        | inr changed ↦ absurd (cc (sym (behind_changed number bytes changed) ∙ is))
-        | inl sum ↦ elim (cases_lt (length bytes) (span bytes)) [
-          | inl short ↦ absurd (cc (sym (behind_short number bytes short) ∙ is))
-          | inr fits ↦ record {
-            number_is = same;
-            sum_is = sum;
-            fits = fits;
-            is = let e : Some (there bytes) ≡ Some found = sym
-                (behind_there number bytes same sum fits) ∙ is in cc;
-          }
-        ]
-      ]
-    ]
+    search (rules, arith, cases_eq, behind_other, behind_changed, cases_lt, behind_short, behind_there)
 
 -- bytes that begin with the same head have its numbers and its sum
 pub record SameHead (p q : List ℕ) : Type 0 where
@@ -150,15 +115,11 @@ behind_more number p q found is =
 pub next_open : (number : ℕ) (bytes : List ℕ) → slice_index bytes 0 ≡ 1 → next number bytes ≡ behind number
     (drop sector bytes)
 unfolding next
-next_open number bytes open_gate =
-    ap (λ (b : Bool). cond b (behind number (drop sector bytes)) None) (eq-eqb (slice_index bytes 0) 1 open_gate)
+next_open number bytes open_gate = simp (eq-eqb, slice_index)
 
 pub next_shut : (number : ℕ) (bytes : List ℕ) → slice_index bytes 0 ≢ 1 → next number bytes ≡ None
 unfolding next
-next_shut number bytes shut = elim (cases_Bool (eqb (slice_index bytes 0) 1)) [
-  | inl open_gate ↦ absurd (shut (eqb-true (slice_index bytes 0) 1 open_gate))
-  | inr is_shut ↦ ap (λ (b : Bool). cond b (behind number (drop sector bytes)) None) is_shut
-]
+next_shut number bytes shut = search (rules, arith, cases_Bool, slice_index, eqb-true)
 
 -- less than a gate and a sector behind it
 pub next_short : (number : ℕ) (bytes : List ℕ) → length bytes < sector + sector → next number bytes ≡ None
@@ -171,10 +132,7 @@ next_short number bytes short = elim (cases_eq (slice_index bytes 0) 1) [
 
 pub next_is : (number : ℕ) (bytes : List ℕ) (found : Kept × List ℕ) → next number bytes ≡ Some found →
     (slice_index bytes 0 ≡ 1) × (behind number (drop sector bytes) ≡ Some found)
-next_is number bytes found is = elim (cases_eq (slice_index bytes 0) 1) [
-  | inl open_gate ↦ (open_gate, sym (next_open number bytes open_gate) ∙ is)
-  | inr shut ↦ absurd (cc (sym (next_shut number bytes shut) ∙ is))
-]
+next_is number bytes found is = search (rules, arith, cases_eq, slice_index, next_open, next_shut)
 
 pub staged_less : (number : ℕ) (bytes : List ℕ) (found : Kept × List ℕ) → staged number bytes ≡ Some found → length
     found.1 + (sector + sector) ≤ length bytes
@@ -250,12 +208,7 @@ module _ (step : ℕ → List ℕ → Option (Kept × List ℕ)) (less : (number
 
   pub all_some : (number : ℕ) (bytes : List ℕ) (found : Kept × List ℕ) → step number bytes ≡ Some found → one_by_one
       step (length bytes) number bytes ≡ found.0 ∷ one_by_one step (length found.1) (number + 1) found.1
-  all_some number bytes found is =
-      let h = less number bytes found is in
-      enough (length bytes) (suc (length bytes)) number bytes (omega arith) (omega arith) ∙ some_within (length bytes)
-      number bytes found is
-      ∙ ap (λ (ks : List Kept). found.0 ∷ ks)
-      (enough (length bytes) (length found.1) (number + 1) found.1 (omega (arith, h)) (omega arith))
+  all_some number bytes found is = search (rules, arith, enough, some_within)
 
 pub batches_none : (number : ℕ) (bytes : List ℕ) → next number bytes ≡ None → batches number bytes ≡ []
 unfolding batches
@@ -280,10 +233,7 @@ lie_more number p q all kept lie is more =
     (λ (n : ℕ). (all ++ kept ∷ []) ++ batches n more) on
 
 pub next_none : (number : ℕ) (bytes : List ℕ) → behind number (drop sector bytes) ≡ None → next number bytes ≡ None
-next_none number bytes none = elim (cases_eq (slice_index bytes 0) 1) [
-  | inl open_gate ↦ next_open number bytes open_gate ∙ none
-  | inr shut ↦ next_shut number bytes shut
-]
+next_none number bytes none = search (rules, arith, cases_eq, slice_index, next_open, next_shut)
 
 -- the sectors of a batch alone
 pub behind_front : (number : ℕ) (bytes : List ℕ) (found : Kept × List ℕ) → behind number bytes ≡ Some found → behind

@@ -1,5 +1,5 @@
 -- Which batches have no record.
-use Rattle.std.proofs.Common.{◌≡◌, inl, inr, ℕ, ◌<◌, ◌≤◌, Bool, true, false, ◌||◌, eqb, List, [], ◌∷◌, ◌++◌}
+use Rattle.std.proofs.Common.{◌≡◌, inl, inr, ℕ, ◌<◌, ◌≤◌, Bool, true, false, ◌||◌, eqb, List, [], ◌∷◌, ◌++◌, rules}
 use Rattle.std.proofs.Common.{length, take, Some, None, refl, sym, ◌∙◌, ap, arith, length-take}
 use Rattle.std.proofs.lemmas.Bool.{cases_Bool, cases_lt, eq-eqb, eqb-true}
 use Rattle.journal.specs.Format.{Kept, records, first, is_mark, has_mark}
@@ -7,10 +7,7 @@ use Rattle.journal.proofs.Reading.{first_nil, nil_first, records_none, records_s
 
 more : (done : List Kept) (kept : Kept) → has_mark (done ++ kept ∷ []) ≡ (has_mark done || is_mark kept)
 more [] kept = elim (is_mark kept) as (λ b. (b || false) ≡ (false || b)) [ true ↦ refl | false ↦ refl ]
-more (k ∷ done) kept =
-    ap (λ (b : Bool). is_mark k || b) (more done kept)
-    ∙ elim (is_mark k) as (λ b. (b || (has_mark done || is_mark kept)) ≡ ((b || has_mark done) || is_mark kept))
-    [ true ↦ refl | false ↦ refl ]
+more (k ∷ done) kept = search (rules, arith, more done kept)
 
 no_mark : (time : ℕ) (bytes : List ℕ) → 0 < length bytes → is_mark (time, records bytes) ≡ false
 no_mark time bytes some =

@@ -1,5 +1,5 @@
 -- What a piece of a batch stands for.
-use Rattle.std.proofs.Common.{◌≡◌, ℕ, ◌+◌, ◌-◌, ◌≤◌, List, [], ◌∷◌, ◌++◌, length, take, drop, Some, None}
+use Rattle.std.proofs.Common.{◌≡◌, ℕ, ◌+◌, ◌-◌, ◌≤◌, List, [], ◌∷◌, ◌++◌, length, take, drop, Some, None, rules}
 use Rattle.std.proofs.Common.{refl, sym, ◌∙◌, ap, subst, arith, append_assoc, length-append, length-drop}
 use Rattle.std.proofs.lemmas.List.{take-append-le, drop-append-le, drop-drop, take-append-drop, append-nil}
 use Rattle.journal.specs.Format.{number_of, records, first}
@@ -9,32 +9,12 @@ use Rattle.journal.proofs.Reading.{first_found, records_some, records_none}
 
 pub first_is : (bytes : List ℕ) (found : List ℕ × List ℕ) → IsFirst bytes found → first bytes ≡ Some found
 first_is bytes found it =
-    first_found bytes (take (number_of (take 8 bytes)) (drop 8 bytes)) (number_of (take 8 bytes)) refl it.fits refl
-    ∙ ap Some it.is
-
--- cut off by its length
-pub first_split : (bytes rest : List ℕ) (size : ℕ) → number_of (take 8 bytes) ≡ size → rest ≡ drop 8 bytes
-    → 8 ≤ length bytes → size ≤ length rest → IsFirst bytes (take size rest, drop size rest)
-first_split bytes rest size is rest_is eight fits = record {
-  fits = omega (arith, is, ap length rest_is, length-drop 8 bytes, eight);
-  is =
-      ap (λ (n : ℕ). (take n (drop 8 bytes), drop (8 + n) bytes)) is
-      ∙ ap (λ (l : List ℕ). (take size (drop 8 bytes), l)) (sym (drop-drop size 8 bytes))
-      ∙ ap (λ (l : List ℕ). (take size l, drop size l)) (sym rest_is);
-}
+    cc (first_found bytes (take (number_of (take 8 bytes)) (drop 8 bytes)) (number_of (take 8 bytes)) refl it.fits refl)
 
 -- what follows it doesn't matter
 first_more : (p q : List ℕ) (found : List ℕ × List ℕ) → IsFirst p found → first (p ++ q) ≡ Some (found.0, found.1 ++ q)
 first_more p q found it =
-    let size = number_of (take 8 p) in
-    let sized : number_of (take 8 (p ++ q)) ≡ size = ap number_of (take-append-le 8 p q (omega (arith, it.fits))) in
-    let body : take size (drop 8 (p ++ q)) ≡ found.0 =
-    ap (take size) (drop-append-le 8 p q (omega (arith, it.fits)))
-    ∙ take-append-le size (drop 8 p) q (omega (arith, it.fits, length-drop 8 p))
-    ∙ ap (λ (f : List ℕ × List ℕ). f.0) it.is in
-    first_found (p ++ q) found.0 size sized (omega (arith, it.fits, length-append p q)) body
-    ∙ ap (λ (l : List ℕ). Some (found.0, l))
-    (drop-append-le (8 + size) p q it.fits ∙ ap (λ (f : List ℕ × List ℕ). f.1 ++ q) it.is)
+    search (rules, arith, take-append-le, drop-append-le, length-drop, first_found, length-append)
 
 pub records_on : (p q : List ℕ) (found : List ℕ × List ℕ) → IsFirst p found → records (p ++ q) ≡ found.0 ∷ records
     (found.1 ++ q)
@@ -43,19 +23,11 @@ records_on p q found is = records_some (p ++ q) (found.0, found.1 ++ q) (first_m
 -- what is left of bytes behind one more record
 pub left_of : (bytes rest : List ℕ) (found : List ℕ × List ℕ) → IsFirst rest found
     → ((n : ℕ) × (rest ≡ drop n bytes) × (n ≤ length bytes)) → (n : ℕ) × (found.1 ≡ drop n bytes) × (n ≤ length bytes)
-left_of bytes rest found it passed =
-    let size = 8 + number_of (take 8 rest) in (
-      passed.0 + size,
-      sym (ap (λ (f : List ℕ × List ℕ). f.1) it.is) ∙ ap (drop size) passed.1 ∙ drop-drop size passed.0 bytes,
-      omega (arith, it.fits, ap length passed.1, length-drop passed.0 bytes, passed.2),
-    )
+left_of bytes rest found it passed = search (rules, arith, drop-drop, length-drop)
 
 pub left_is : (bytes rest : List ℕ) → ((n : ℕ) × (rest ≡ drop n bytes) × (n ≤ length bytes))
     → rest ≡ drop (length bytes - length rest) bytes
-left_is bytes rest passed =
-    let n_is : passed.0 ≡ length bytes - length rest = omega
-    (arith, ap length passed.1, length-drop passed.0 bytes, passed.2) in
-    passed.1 ∙ ap (λ (n : ℕ). drop n bytes) n_is
+left_is bytes rest passed = search (rules, arith, length-drop)
 
 -- a piece, and what a run over it leaves of the batch
 pub past_piece : {M : Type 0} (steps : M → ℕ → List ℕ → M → Type 0) (time : ℕ) (old new : M) (file piece : List ℕ)
@@ -78,17 +50,12 @@ records_and : {M : Type 0} (steps : M → ℕ → List ℕ → M → Type 0) (ti
     → RunsRecords steps time old (one ++ two) new
 records_and steps time old mid new [] two run more = subst (λ m. RunsRecords steps time m two new) run more
 records_and steps time old mid new (r ∷ one) two run more =
-    (run.0, run.1, records_and steps time run.0 mid new one two run.2 more)
+    search (rules, arith, records_and steps time run.0 mid new one two run.2 more)
 
 module _ {M : Type 0} (steps : M → ℕ → List ℕ → M → Type 0) (time : ℕ) (old : M) (file : List ℕ) (start : ℕ) where
   pub to_more : (mid new : M) (at next : ℕ) → RunsTo steps time old file start at mid
       → RunsTo steps time mid file at next new → RunsTo steps time old file start next new
-  to_more mid new at next run more = (
-    run.0 ++ more.0,
-    records_and steps time old mid new run.0 more.0 run.1 more.1,
-    run.2 ∙ ap (λ (l : List (List ℕ)). run.0 ++ l) more.2
-        ∙ sym (append_assoc run.0 more.0 (records (drop next file))),
-  )
+  to_more mid new at next run more = search (rules, arith, records_and, append_assoc)
 
   pub to_record : (mid new : M) (at next : ℕ) (bytes : List ℕ) → RunsTo steps time old file start at mid
       → Finds file at bytes (Some next) → steps mid time bytes new → RunsTo steps time old file start next new
@@ -98,7 +65,4 @@ module _ {M : Type 0} (steps : M → ℕ → List ℕ → M → Type 0) (time : 
 
   pub to_end : (new : M) (at : ℕ) (bytes : List ℕ) → RunsTo steps time old file start at new → Finds file at bytes None
       → RunsRecords steps time old (records (drop start file)) new
-  to_end new at bytes run none =
-      let all : records (drop start file) ≡ run.0 =
-      run.2 ∙ ap (λ (l : List (List ℕ)). run.0 ++ l) (records_none (drop at file) none) ∙ append-nil run.0 in
-      subst (λ l. RunsRecords steps time old l new) (sym all) run.1
+  to_end new at bytes run none = search (rules, arith, records_none, append-nil)

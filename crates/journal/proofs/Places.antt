@@ -13,10 +13,14 @@ module _ (at n : ℕ) (old new : List ℕ) (torn : Torn at n old new) where
 
   pub same_back : at + n ≤ length old → drop (at + n) new ≡ drop (at + n) old
   same_back within =
-      ext_get_or 0 (drop (at + n) new) (drop (at + n) old)
-      (omega (arith, length-drop (at + n) new, length-drop (at + n) old)) (λ i low.
-      let inside : at + n + i < length old = omega (arith, length-drop (at + n) new) in
-      get_or-drop (at + n) new i 0 ∙ torn.above (at + n + i) inside (omega arith) ∙ sym (get_or-drop (at + n) old i 0))
+      grind (
+        arith,
+        ext_get_or 0 (drop (at + n) new) (drop (at + n) old) (omega (arith, length-drop (at + n) new, length-drop (at + n) old)),
+        length-drop (at + n) new,
+        length-drop (at + n) old,
+        get_or-drop (at + n) new,
+        get_or-drop (at + n) old,
+      )
 
 -- what was written, in its place
 pub held : (file : List ℕ) (at : ℕ) (bytes : List ℕ) → Holds file at bytes → take (length bytes) (drop at file) ≡ bytes

@@ -1,7 +1,7 @@
 -- What blocks stand for.
-use Rattle.std.proofs.Common.{◌≡◌, ◌⊎◌, inl, inr, ℕ, zero, suc, ◌+◌, ◌<◌, ◌≤◌, ◌^◌, Bool, true, cond, nat_le, List}
+use Rattle.std.proofs.Common.{◌≡◌, ◌⊎◌, inl, inr, ℕ, zero, suc, ◌+◌, ◌<◌, ◌≤◌, ◌^◌, nat_le, List}
 use Rattle.std.proofs.Common.{[], ◌∷◌, ◌++◌, length, take, drop, Some, None, refl, sym, ◌∙◌, ap, arith, append_assoc}
-use Rattle.std.proofs.Common.{length-append, length-drop}
+use Rattle.std.proofs.Common.{length-append, length-drop, rules}
 use Rattle.std.proofs.lemmas.List.{take_at, drop_at}
 use Rattle.std.proofs.lemmas.Bool.{cases_lt, le-leb, lt-leb}
 use Rattle.std.proofs.lemmas.Nat.{from_be_bytes-to_be_bytes_8}
@@ -21,29 +21,13 @@ number_of-number_bytes n fits = from_be_bytes-to_be_bytes_8 n fits
 pub first_found : (bytes body : List ℕ) (size : ℕ) → number_of (take 8 bytes) ≡ size → 8 + size ≤ length bytes → take
     size (drop 8 bytes) ≡ body → first bytes ≡ Some (body, drop (8 + size) bytes)
 unfolding first
-first_found bytes body size is fits body_is =
-    let n_is : nat_le (8 + number_of (take 8 bytes)) (length bytes) ≡ true = le-leb (8 + number_of (take 8 bytes))
-    (length bytes) (omega (arith, is)) in
-    ap (λ (b : Bool). cond b (Some (
-      take (number_of (take 8 bytes)) (drop 8 bytes),
-      drop
-          (8 + number_of (take 8 bytes)) bytes,
-    )) (cond (nat_le 1 (length bytes)) (Some (bytes, [])) None)) n_is
-    ∙ ap (λ (n : ℕ). Some (take n (drop 8 bytes), drop (8 + n) bytes)) is ∙ ap
-    (λ (l : List ℕ). Some (l, drop (8 + size) bytes)) body_is
+first_found bytes body size is fits body_is = search (rules, arith, nat_le, le-leb)
 
 -- and those that don't
 pub first_short : (bytes : List ℕ) → length bytes < 8 + number_of (take 8 bytes) → 0 < length bytes → first bytes ≡
     Some (bytes, [])
 unfolding first
-first_short bytes short some =
-    ap (λ (b : Bool). cond b (Some (
-      take (number_of (take 8 bytes)) (drop 8 bytes),
-      drop
-          (8 + number_of (take 8 bytes)) bytes,
-    )) (cond (nat_le 1 (length bytes)) (Some (bytes, [])) None))
-    (lt-leb (8 + number_of (take 8 bytes)) (length bytes) short)
-    ∙ ap (λ (b : Bool). cond b (Some (bytes, [])) None) (le-leb 1 (length bytes) some)
+first_short bytes short some = simp (nat_le, lt-leb, le-leb)
 
 pub first_nil : first [] ≡ None
 unfolding first number_of
@@ -51,28 +35,12 @@ first_nil = refl
 
 pub nil_first : (bytes : List ℕ) → first bytes ≡ None → bytes ≡ []
 nil_first [] none = refl
-nil_first (b ∷ bytes) none = elim (cases_lt (length (b ∷ bytes)) (8 + number_of (take 8 (b ∷ bytes)))) [
-  | inl short ↦ absurd (cc (sym (first_short (b ∷ bytes) short (omega arith)) ∙ none))
-  | inr whole ↦ absurd (cc (sym (first_found (b ∷ bytes) _ (number_of (take 8 (b ∷ bytes))) refl whole refl) ∙ none))
-]
+nil_first (b ∷ bytes) none = search (rules, arith, cases_lt, first_short, first_found)
 
 -- one that is there leaves less
 pub first_less : (bytes : List ℕ) (found : List ℕ × List ℕ) → first bytes ≡ Some found → length found.1 < length bytes
 first_less [] found is = absurd (cc (sym first_nil ∙ is))
-first_less (b ∷ bytes) found is =
-    let all = b ∷ bytes in
-    let size = number_of (take 8 all) in
-    elim (cases_lt (length all) (8 + size)) [
-      | inl short ↦
-          let there : Some (all, []) ≡ Some found = sym (first_short all short (omega arith)) ∙ is in
-          let rest : [] ≡ found.1 = cc in
-          omega (arith, ap length rest)
-      | inr whole ↦
-          let there : Some (take size (drop 8 all), drop (8 + size) all) ≡ Some found = sym
-          (first_found all _ size refl whole refl) ∙ is in
-          let rest : drop (8 + size) all ≡ found.1 = cc in
-          omega (arith, whole, ap length rest, length-drop (8 + size) all)
-    ]
+first_less (b ∷ bytes) found is = search (rules, arith, cases_lt, first_short, first_found, length-drop)
 
 none_within : (n : ℕ) (bytes : List ℕ) → first bytes ≡ None → records_within n bytes ≡ []
 none_within zero bytes none = refl
@@ -95,14 +63,7 @@ enough zero n (b ∷ bytes) m_is n_is = absurd (omega arith)
 enough (suc m) zero [] m_is n_is = none_within (suc m) [] first_nil
 enough (suc m) zero (b ∷ bytes) m_is n_is = absurd (omega arith)
 enough (suc m) (suc n) bytes m_is n_is =
-    elim (cases_first bytes) [
-      | inl none ↦ none_within (suc m) bytes none ∙ sym (none_within (suc n) bytes none)
-      | inr found ↦
-          let less = first_less bytes found.0 found.1 in
-          some_within m bytes found.0 found.1
-          ∙ ap (λ (rs : List (List ℕ)). found.0.0 ∷ rs) (enough m n found.0.1 (omega arith) (omega arith))
-          ∙ sym (some_within n bytes found.0 found.1)
-    ]
+    search (rules, arith, cases_first, none_within, first_less, some_within, enough m n)
 
 pub records_none : (bytes : List ℕ) → first bytes ≡ None → records bytes ≡ []
 unfolding records
@@ -111,12 +72,7 @@ records_none bytes none = none_within (length bytes) bytes none
 pub records_some : (bytes : List ℕ) (found : List ℕ × List ℕ) → first bytes ≡ Some found → records bytes ≡ found.0 ∷
     records found.1
 unfolding records
-records_some bytes found is =
-    let less = first_less bytes found is in
-    enough (length bytes) (suc (length bytes)) bytes (omega arith) (omega arith) ∙ some_within (length bytes) bytes
-    found is
-    ∙ ap (λ (rs : List (List ℕ)). found.0 ∷ rs)
-    (enough (length bytes) (length found.1) found.1 (omega arith) (omega arith))
+records_some bytes found is = search (rules, arith, first_less, enough, some_within)
 
 pub first_block : (bytes rest : List ℕ) → length bytes < 2 ^ 64 → first (block bytes ++ rest) ≡ Some (bytes, rest)
 first_block bytes rest fits =

@@ -1,5 +1,5 @@
 -- The end of a file, as a crash left it and as it is repaired.
-use Rattle.std.proofs.Common.{◌≡◌, ◌≢◌, inl, inr, ℕ, ◌+◌, ◌<◌, ◌≤◌, List, [], ◌++◌, length, take, drop}
+use Rattle.std.proofs.Common.{◌≡◌, ◌≢◌, inl, inr, ℕ, ◌+◌, ◌<◌, ◌≤◌, List, [], ◌++◌, length, take, drop, rules}
 use Rattle.std.proofs.Common.{slice_index, None, sym, ◌∙◌, ap, subst, arith, length-drop, length-take}
 use Rattle.std.proofs.lemmas.Bool.{cases_eq, cases_lt}
 use Rattle.std.proofs.lemmas.List.{append-nil, drop-drop}
@@ -22,10 +22,7 @@ stored_begun old new small torn = stored_small new (omega (arith, torn.no_longer
 pub begun_follows : (file : List ℕ) (old new : List ℕ → Type 0) → length file ≤ sector + sector → Only file old →
     Follows (Torn 0 sector) old new
     → (c : List ℕ) → new c → stored c ≡ stored file
-begun_follows file old new small only follows c left =
-    let from = follows c left in
-    let is : from.0 ≡ file = only from.0 from.1 in
-    stored_begun file c small (subst (λ (d : List ℕ). Torn 0 sector d c) is from.2)
+begun_follows file old new small only follows c left = search (rules, arith, stored_begun)
 
 module _ (file : List ℕ) (end count : ℕ) (begins : sector ≤ end) (ends : EndsAt file end count) (c : List ℕ) where
   line_long : length (take sector file) ≡ sector
@@ -48,8 +45,7 @@ module _ (file : List ℕ) (end count : ℕ) (begins : sector ≤ end) (ends : E
 
   pub line_repaired : Repairs end file c → take sector c ≡ take sector file
   line_repaired repairs =
-      sym (take_within c 0 sector end begins) ∙ ap (λ (l : List ℕ). take sector l) (front_is repairs)
-      ∙ take_within file 0 sector end begins
+      cc (take_within c 0 sector end begins, front_is repairs, take_within file 0 sector end begins)
 
   none_short : length file < end + sector → Torn end sector file c → next count (drop end c) ≡ None
   none_short short torn = next_short count (drop end c) (omega (arith, length-drop end c, torn.no_longer))

@@ -1,11 +1,11 @@
 -- What the bytes that were read say of the file.
-use Rattle.std.proofs.Common.{◌≡◌, ◌≢◌, ◌⊎◌, inl, inr, ℕ, ◌+◌, ◌-◌, ◌<◌, ◌≤◌, List, []}
+use Rattle.std.proofs.Common.{◌≡◌, ◌≢◌, inl, inr, ℕ, ◌+◌, ◌-◌, ◌<◌, ◌≤◌, List, [], rules}
 use Rattle.std.proofs.Common.{◌∷◌, ◌++◌, length, take, drop, get_or, slice_index, Option, Some, None, refl, sym, ◌∙◌}
 use Rattle.std.proofs.Common.{ap, subst, arith, append_assoc, length-append, length-drop, length-take}
 use Rattle.std.proofs.Common.{get_or-take, get_or-drop}
 use Rattle.std.proofs.lemmas.List.{drop-drop, ext_get_or, append-nil, take_all}
 use Rattle.sqlite_disk.specs.Disk.{Holds}
-use Rattle.journal.specs.Format.{Kept, sector, whole, number_of, number_in, time_in, length_in, sum_in, sum_here, span}
+use Rattle.journal.specs.Format.{Kept, sector, whole, number_of, time_in, length_in, span}
 use Rattle.journal.specs.Format.{records, next, staged, batches, stored, Lie}
 use Rattle.journal.specs.Reads.{EndsAt, IsHead, IsNoHead, headed, FindsBatch, FindsSize, FindsStaged}
 use Rattle.journal.specs.declared.head.Head.{Head}
@@ -77,13 +77,11 @@ module _ (file : List ℕ) (at number : ℕ) where
   gate_is = let here : at + 0 ≡ at = omega arith in get_or-drop at file 0 0 ∙ ap (λ (n : ℕ). slice_index file n) here
 
   byte_is : (gate : List ℕ) → Holds file at gate → 0 < length gate → slice_index file at ≡ slice_index gate 0
-  byte_is gate holds some = let here : at + 0 ≡ at = omega arith in ap (λ (n : ℕ). slice_index file n) (sym here) ∙
-      holds.each 0 some
+  byte_is gate holds some = search (rules, arith, slice_index)
 
   pub none_shut : (gate : List ℕ) → Holds file at gate → 0 < length gate → slice_index gate 0 ≢ 1 → next number
       (drop at file) ≡ None
-  none_shut gate holds some shut = next_shut number (drop at file)
-      (λ is. shut (sym (byte_is gate holds some) ∙ sym gate_is ∙ is))
+  none_shut gate holds some shut = search (rules, arith, next_shut, byte_is, gate_is)
 
   pub none_number : (bytes : List ℕ) → Holds file (at + sector) bytes → length bytes ≡ 8 → number_of bytes ≢ number
       → staged number (drop at file) ≡ None
@@ -137,9 +135,7 @@ module _ (file : List ℕ) (at number : ℕ) where
 
   pub finds_open : (gate : List ℕ) → Holds file at gate → 0 < length gate → slice_index gate 0 ≡ 1
       → (found : Option Head) → FindsStaged file at number found → FindsBatch file at number found
-  finds_open gate holds some open_gate None found = next_none number (drop at file) found
-  finds_open gate holds some open_gate (Some it) found =
-      next_open number (drop at file) (gate_is ∙ byte_is gate holds some ∙ open_gate) ∙ found
+  finds_open gate h1 h2 h3 found h4 = search (rules, arith, next_none, next_open, gate_is, byte_is)
 
 -- a run goes on by one record, and by one batch
 pub records_more : {M : Type 0} (steps : M → ℕ → List ℕ → M → Type 0) (time : ℕ) (old mid new : M)
@@ -148,14 +144,13 @@ pub records_more : {M : Type 0} (steps : M → ℕ → List ℕ → M → Type 0
     new
 records_more {M} steps time old mid new [] bytes run step = (new, subst (λ m. steps m time bytes new) run step, refl)
 records_more {M} steps time old mid new (r ∷ done) bytes run step =
-    (run.0, run.1, records_more steps time run.0 mid new done bytes run.2 step)
+    search (rules, arith, records_more steps time run.0 mid new done bytes run.2 step)
 
 pub runs_more : {M : Type 0} (steps : M → ℕ → List ℕ → M → Type 0) (old mid new : M) (done : List Kept) (kept : Kept)
     → Runs steps old done mid → RunsRecords steps kept.0 mid kept.1 new → Runs steps old (done ++ kept ∷ []) new
-runs_more {M} steps old mid new [] kept run step =
-    (new, subst (λ m. RunsRecords steps kept.0 m kept.1 new) run step, refl)
+runs_more {M} steps old mid new [] kept run step = search (rules, arith)
 runs_more {M} steps old mid new (k ∷ done) kept run step =
-    (run.0, run.1, runs_more steps run.0 mid new done kept run.2 step)
+    search (rules, arith, runs_more steps run.0 mid new done kept run.2 step)
 
 -- what has been read of a file: these batches, up to here
 pub record HasRead (file : List ℕ) (done : List Kept) (at : ℕ) : Type 0 where
@@ -163,9 +158,6 @@ pub record HasRead (file : List ℕ) (done : List Kept) (at : ℕ) : Type 0 wher
   pub front : take at file ≡ take sector file ++ body
   pub lie : Lie 0 body done
   pub all : stored file ≡ done ++ batches (length done) (drop at file)
-
-pub read_none : (file : List ℕ) → HasRead file [] sector
-read_none file = record { body = []; front = sym (append-nil (take sector file)); lie = λ more. refl; all = refl }
 
 pub read_more : (file : List ℕ) (done : List Kept) (at behind_it : ℕ) (kept : Kept) → HasRead file done at → at ≤
     behind_it → behind_it ≤ length file
@@ -195,18 +187,4 @@ read_more file done at behind_it kept read from within is =
 pub read_all : (file : List ℕ) (done : List Kept) (at count : ℕ) → HasRead file done at → count ≡ length done → at ≤
     length file → next count (drop at file) ≡ None
     → (stored file ≡ done) × EndsAt file at count
-read_all file done at count read counted within none =
-    let none_here : next (length done) (drop at file) ≡ None = subst (λ (n : ℕ). next n (drop at file) ≡ None) counted
-    none in
-    let all : stored file ≡ done = read.all ∙ ap (λ (l : List Kept). done ++ l)
-    (batches_none (length done) (drop at file) none_here) ∙ append-nil done in (
-      all,
-      record {
-        body = read.body;
-        front = read.front;
-        lie = subst (λ (l : List Kept). Lie 0 read.body l) (sym all) read.lie;
-        none = none;
-        count_is = counted ∙ ap length (sym all);
-        within = within;
-      },
-    )
+read_all file done at count read counted within none = search (rules, arith, batches_none, append-nil)

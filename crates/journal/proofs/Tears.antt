@@ -1,68 +1,37 @@
 -- What several writes leave together.
-use Rattle.std.proofs.Common.{◌≡◌, ℕ, ◌+◌, ◌-◌, ◌<◌, ◌≤◌, inl, inr, List, [], ◌++◌, length, take, get_or}
-use Rattle.std.proofs.Common.{refl, sym, ◌∙◌, ap, subst, arith, length-append, length-take, get_or-take}
+use Rattle.std.proofs.Common.{◌≡◌, ℕ, ◌+◌, ◌<◌, ◌≤◌, inl, inr, List, [], ◌++◌, length, take, rules}
+use Rattle.std.proofs.Common.{sym, ◌∙◌, ap, subst, arith, length-append, length-take, get_or-take}
 use Rattle.std.proofs.lemmas.Bool.{cases_lt}
 use Rattle.std.proofs.lemmas.List.{append-nil, nil_from_length, get_or_append_left, get_or-append_right}
 use Rattle.sqlite_disk.specs.Disk.{Holds, Torn, Follows}
 
 -- a write that lies within a wider range
 pub torn_wider : (a k at n : ℕ) (old new : List ℕ) → a ≤ at → at + n ≤ a + k → Torn at n old new → Torn a k old new
-torn_wider a k at n old new from to torn = record {
-  no_shorter = torn.no_shorter;
-  no_longer = omega (arith, torn.no_longer);
-  below = λ i low before. torn.below i low (omega arith);
-  above = λ i low past. torn.above i low (omega arith);
-}
+torn_wider a k at n old new from to torn = omega arith
 
 pub torn_both : (a k : ℕ) (old mid new : List ℕ) → Torn a k old mid → Torn a k mid new → Torn a k old new
-torn_both a k old mid new one two = record {
-  no_shorter = omega (arith, one.no_shorter, two.no_shorter);
-  no_longer = omega (arith, one.no_longer, two.no_longer);
-  below = λ i low before. two.below i (omega (arith, one.no_shorter)) before ∙ one.below i low before;
-  above = λ i low past. two.above i (omega (arith, one.no_shorter)) past ∙ one.above i low past;
-}
+torn_both a k old mid new one two = omega arith
 
 pub follows_wider : (a k at n : ℕ) (P Q : List ℕ → Type 0) → a ≤ at → at + n ≤ a + k → Follows (Torn at n) P Q →
     Follows (Torn a k) P Q
-follows_wider a k at n P Q from to follows c left =
-    let it = follows c left in (it.0, it.1, torn_wider a k at n it.0 c from to it.2)
+follows_wider a k at n P Q from to follows c left = search (rules, arith, torn_wider)
 
 pub follows_both : (a k : ℕ) (P Q R : List ℕ → Type 0) → Follows (Torn a k) P Q → Follows (Torn a k) Q R → Follows
     (Torn a k) P R
-follows_both a k P Q R one two c left =
-    let later = two c left in
-    let earlier = one later.0 later.1 in
-    (earlier.0, earlier.1, torn_both a k earlier.0 later.0 c earlier.2 later.2)
+follows_both a k P Q R one two c left = search (rules, arith, torn_both)
 
 -- bytes before the range of a later write
 pub holds_still : (at b m : ℕ) (bytes old new : List ℕ) → at + length bytes ≤ b → Torn b m old new → Holds old at
     bytes → Holds new at bytes
-holds_still at b m bytes old new before torn holds = record {
-  within = omega (arith, holds.within, torn.no_shorter);
-  each = λ i low. torn.below (at + i) (omega (arith, holds.within)) (omega arith) ∙ holds.each i low;
-}
+holds_still at b m bytes old new before torn holds = omega arith
 
 pub holds_front : (file : List ℕ) (at : ℕ) (bytes : List ℕ) (n : ℕ) → Holds file at bytes → Holds file at (take n bytes)
-holds_front file at bytes n holds = record {
-  within = omega (arith, holds.within, length-take n bytes);
-  each =
-      λ i low. holds.each i (omega (arith, length-take n bytes)) ∙ sym
-      (get_or-take n bytes i 0 (omega (arith, length-take n bytes)));
-}
+holds_front file at bytes n holds = omega (arith, length-take n bytes, get_or-take n bytes)
 
 pub holds_both : (file : List ℕ) (at : ℕ) (one two : List ℕ) → Holds file at one → Holds file (at + length one) two →
     Holds file at (one ++ two)
-holds_both file at one two first second = record {
-  within = omega (arith, second.within, length-append one two);
-  each = λ i low. elim (cases_lt i (length one)) [
-    | inl here ↦ first.each i here ∙ sym (get_or_append_left one two 0 i here)
-    | inr there ↦
-        let j = i - length one in
-        let on : at + length one + j ≡ at + i = omega arith in
-        ap (λ (n : ℕ). get_or file n 0) (sym on) ∙ second.each j (omega (arith, length-append one two)) ∙ sym
-        (get_or-append_right one two (length one) i 0 refl there)
-  ];
-}
+holds_both file at one two first second =
+    search (rules, arith, length-append, cases_lt, get_or_append_left, get_or-append_right)
 
 -- two writes, one behind the other, each of which may be of nothing
 pub joined : (at b k : ℕ) (bytes one two mid new : List ℕ) → bytes ≡ one ++ two → (0 < length one → Holds mid at one)

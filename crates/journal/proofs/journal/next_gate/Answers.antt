@@ -6,6 +6,4 @@ pub returns-then-len : goal.returns-then-len
 returns-then-len c = let w = is_whole (32 + c.args.len) in omega (arith, w.no_less, c.if-len.true)
 
 pub overflow_add-next-2 : goal.overflow_add-next-2
-overflow_add-next-2 c =
-    let w = is_whole (32 + c.args.len) in record
-    { fits = omega (arith, w.no_more, c.whole.ensures, c.if-len.false, c.requires) }
+overflow_add-next-2 c = omega (arith, is_whole (32 + c.args.len))

@@ -1,15 +1,13 @@
-use Rattle.std.proofs.Common.{◌≡◌, ◌+◌, ◌<◌, ◌++◌, ◌∷◌, [], ℕ, List, Result, Ok, Err, OnOk, OnErr, is_err}
-use Rattle.std.proofs.Common.{true, false, refl, length, take, sym, ap, subst, ◌∙◌, arith, rules, inl, inr}
+use Rattle.std.proofs.Common.{◌≡◌, ◌+◌, ◌<◌, ◌++◌, ◌∷◌, [], ℕ, List, Result, Ok, Err, OnOk, is_err}
+use Rattle.std.proofs.Common.{false, refl, length, take, sym, ap, ◌∙◌, arith, rules, inl, inr}
 use Rattle.std.proofs.Common.{append_assoc}
 use Rattle.std.proofs.lemmas.List.{append-nil, take_more, map-append}
 use Rattle.std.proofs.lemmas.List.Sums.{sum_by_push}
 use Rattle.std.specs.List.{sum_by}
 use Rattle.journal.specs.Format.{Kept}
-use Rattle.journal.specs.Line.{BeginsWith}
 use Rattle.journal.specs.Batch.{batch_records, batch_size, kept_of, kept_at}
 use Rattle.journal.specs.Journal.{kept}
 use Rattle.journal.specs.declared.batch.Batch.{Batch}
-use Rattle.journal.proofs.Causes.{why_not, if_err_told}
 use Rattle.journal.proofs.Commit.{stored_rests}
 use Rattle.journal.proofs.life.append_each.Goals as goal
 
@@ -28,10 +26,6 @@ loop-i-init g c = record {
 if_ok : {T E : Type 0} (result : Result T E) (P : Type 0) → is_err result ≡ false → OnOk result P → P
 if_ok (Ok x) P ok told = told
 if_ok (Err e) P ok told = absurd (cc ok)
-
-if_err : {T E : Type 0} (result : Result T E) (P : Type 0) → is_err result ≡ true → OnErr result P → P
-if_err (Ok x) P bad told = absurd (cc bad)
-if_err (Err e) P bad told = told
 
 -- one batch more
 module _ (time i : ℕ) (batches : List Batch) (batch : Batch)
@@ -77,29 +71,6 @@ loop-i-preserved g c =
       durable = λ clean file may. durable clean file may ∙ sym (added clean);
     }
 
-pub returns-then-is_err-clause-cause : goal.returns-then-is_err-clause-cause
-returns-then-is_err-clause-cause g c fewer =
-    let i = c.loop-i.i in
-    let batches = c.args.batches.now in
-    let batch = c.index-batches-i.result in
-    let so_far = c.loop-i.invariant in
-    let more : take (i + 1) batches ≡ take i batches ++ batch ∷ [] = take_more batches i batch (search rules) ∙ ap
-    (λ b. take i batches ++ b ∷ []) (sym c.index-batches-i.is) in
-    let failed = if_err_told c.append.result _ (sym c.is_err.ensures.value ∙ c.if-is_err.true) c.append.ensures.cause in
-    why_not _ _ _ _ _ (λ closed. absurd (cc (sym so_far.is_still_open ∙ closed)))
-    (λ long. inl (omega (arith, long, so_far.ends, sum_more c.args.time i batches batch more)))
-    (λ faults. inr (omega (arith, faults, so_far.faults))) failed.0 failed.1
-
-pub returns-then-is_err-clause-added : goal.returns-then-is_err-clause-added
-returns-then-is_err-clause-added g c opened clean =
-    if_err c.append.result _ (sym c.is_err.ensures.value ∙ c.if-is_err.true) c.append.ensures.refused opened clean
-    ∙ c.loop-i.invariant.added (c.append.ensures.clean clean)
-
-pub returns-then-is_err-clause-front : goal.returns-then-is_err-clause-front
-returns-then-is_err-clause-front g c clean file may =
-    subst (λ l. BeginsWith l file) c.loop-i.invariant.line
-    (c.append.ensures.front c.loop-i.invariant.is_still_open clean file may)
-
 pub returns-then-is_err-clause-any_crash : goal.returns-then-is_err-clause-any_crash
 returns-then-is_err-clause-any_crash g c clean file may =
     let i = c.loop-i.i in
@@ -120,8 +91,3 @@ returns-then-is_err-clause-any_crash g c clean file may =
             ∙ kept_more c.args.time i batches batch more (kept c.args.journal.now),
       )
     ]
-
-pub returns-clause-front : goal.returns-clause-front
-returns-clause-front g c clean file may =
-    let rests = c.loop-i.journal.rests c.loop-i.invariant.is_still_open clean file may in
-    subst (λ l. BeginsWith l file) c.loop-i.invariant.line rests.front

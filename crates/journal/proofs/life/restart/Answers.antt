@@ -1,5 +1,4 @@
-use Rattle.std.proofs.Common.{◌∙◌, ap, sym, subst, arith}
-use Rattle.journal.specs.Line.{BeginsWith}
+use Rattle.std.proofs.Common.{◌∙◌, ap, sym, arith}
 use Rattle.journal.proofs.Causes.{because_weaker}
 use Rattle.journal.proofs.life.restart.Goals as goal
 
@@ -7,25 +6,6 @@ pub returns-in-Err-clause-any_crash : goal.returns-in-Err-clause-any_crash
 returns-in-Err-clause-any_crash g c clean file may =
     let before = c.recover.ensures.any_crash clean file may in
     (before.0, c.crash.ensures.no_more before.0 before.1, before.2)
-
-pub returns-clause-any_crash : goal.returns-clause-any_crash
-returns-clause-any_crash g c clean file may =
-    let before = c.recover.ensures.any_crash clean file may in
-    (before.0, c.crash.ensures.no_more before.0 before.1, before.2)
-
-pub returns-in-Err-clause-front : goal.returns-in-Err-clause-front
-returns-in-Err-clause-front g c all clean file may =
-    let line = c.crash.ensures.line in
-    subst (λ l. BeginsWith l file) line
-    (c.recover.ensures.front
-    (λ d was. subst (λ l. BeginsWith l d) (sym line) (all d (c.crash.ensures.no_more d was))) clean file may)
-
-pub returns-clause-front : goal.returns-clause-front
-returns-clause-front g c all clean file may =
-    let line = c.crash.ensures.line in
-    subst (λ l. BeginsWith l file) line
-    (c.recover.ensures.front
-    (λ d was. subst (λ l. BeginsWith l d) (sym line) (all d (c.crash.ensures.no_more d was))) clean file may)
 
 pub returns-in-Err-clause-cause : goal.returns-in-Err-clause-cause
 returns-in-Err-clause-cause g c =

@@ -1,15 +1,6 @@
-use Rattle.std.proofs.Common.{◌∙◌, refl, sym, subst, arith}
+use Rattle.std.proofs.Common.{◌∙◌, sym, subst, arith}
 use Rattle.journal.specs.Line.{BeginsWith}
 use Rattle.journal.proofs.life.restart_each.Goals as goal
-
-pub loop-i-init : goal.loop-i-init
-loop-i-init g c = record {
-  line = refl;
-  faults = omega arith;
-  front = λ all clean. all;
-  clean = λ clean. clean;
-  any_crash = λ clean file may. (file, may, refl);
-}
 
 pub loop-i-preserved : goal.loop-i-preserved
 loop-i-preserved g c =

@@ -1,9 +1,6 @@
-use Rattle.std.proofs.Common.{◌≡◌, ◌∙◌, ◌≤◌, ◌+◌, inl, inr, List, ℕ, length, take, ap, sym, subst, refl, arith}
+use Rattle.std.proofs.Common.{◌∙◌, ◌≤◌, ◌+◌, inl, List, length, take, ap, sym, subst, refl, arith}
 use Rattle.journal.specs.Format.{Kept, sector, has_mark}
 use Rattle.journal.specs.Machine.{Runs}
-use Rattle.journal.specs.Reads.{EndsAt}
-use Rattle.journal.specs.Ending.{EndsAs, Looks}
-use Rattle.journal.specs.declared.ending.Ending.{Ending}
 use Rattle.journal.proofs.Causes.{because_weaker, never}
 use Rattle.journal.proofs.Repaired.{stored_small}
 use Rattle.journal.proofs.looking.look.Goals as goal
@@ -23,16 +20,6 @@ returns-then-not-stands-clause-ran g c clean =
     subst (λ (l : List Kept). Runs g.M.Machine.steps c.args.machine.now l c.args.machine.now)
     (sym (stored_small file short)) refl
 
--- by the file as it was read, which is the one at the beginning
-ends : (ending : Ending) (old mid now : List ℕ) (at count : ℕ) → mid ≡ old → now ≡ mid → EndsAt mid at count
-    → EndsAs ending now at count → Looks ending old
-ends ending old mid now at count same still ends_at so = inr (record {
-  end = at;
-  count = count;
-  ends = subst (λ (f : List ℕ). EndsAt f at count) same ends_at;
-  so = subst (λ (f : List ℕ). EndsAs ending f at count) (still ∙ same) so;
-})
-
 pub returns-then-not-stands-clause-ends : goal.returns-then-not-stands-clause-ends
 returns-then-not-stands-clause-ends g c clean =
     let measured = c.in_ok-len.ensures.measured (c.is_ours.ensures.reads.clean clean) in
@@ -43,11 +30,3 @@ returns-then-not-stands-clause-marked g c clean =
     let measured = c.in_ok-len.ensures.measured (c.is_ours.ensures.reads.clean clean) in
     sym (ap has_mark (stored_small (g.D.Disk.seen c.args.disk.now)
     (omega (arith, measured, c.in-Ok.ensures.small c.if-not-stands.true))))
-
-pub returns-clause-ends : goal.returns-clause-ends
-returns-clause-ends g c clean =
-    let read_clean = c.see_end.ensures.reads.clean clean in
-    ends c.in_ok-ending.ending (g.D.Disk.seen c.args.disk.now) (g.D.Disk.seen c.is_ours.new.disk)
-    (g.D.Disk.seen c.replay.new.disk)
-    c.in_ok-end.end.at c.in_ok-end.end.count (c.is_ours.ensures.reads.seen ∙ c.measure.ensures.reads.seen)
-    c.replay.ensures.reads.seen (c.in_ok-end.ensures.end read_clean) (c.in_ok-ending.ensures.so clean)

@@ -1,4 +1,4 @@
-use Rattle.std.proofs.Common.{rules, ◌≡◌, ◌+◌, length, drop, take, IsTrue, sym, ap, ◌∙◌}
+use Rattle.std.proofs.Common.{rules, ◌≡◌, ◌+◌, length, drop, take, IsTrue, sym, ap, ◌∙◌, arith}
 use Rattle.journal.specs.Format.{sector}
 use Rattle.journal.specs.Mending.{copy_at, head_at}
 use Rattle.journal.proofs.Places.{held}
@@ -27,5 +27,4 @@ pub returns-clause-has : goal.returns-clause-has
 returns-clause-has g c is clean = copied g c clean ∙ c.is_same.ensures.same is ∙ sym (headed_so g c clean)
 
 pub returns-clause-other : goal.returns-clause-other
-returns-clause-other g c is clean same =
-    c.is_same.ensures.other is (sym (copied g c clean) ∙ same ∙ headed_so g c clean)
+returns-clause-other g c is clean same = search (rules, arith, copied, headed_so)

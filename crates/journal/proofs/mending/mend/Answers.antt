@@ -1,4 +1,4 @@
-use Rattle.std.proofs.Common.{◌≡◌, ◌+◌, length, drop, IsTrue, ℕ, List, inl, inr, sym, ap, subst, ◌∙◌, arith}
+use Rattle.std.proofs.Common.{◌≡◌, ◌+◌, length, drop, IsTrue, ℕ, List, inl, inr, sym, ap, subst, ◌∙◌, arith, rules}
 use Rattle.std.proofs.Common.{Result, Ok, Err}
 use Rattle.std.specs.Prelude.{IfOk}
 use Rattle.sqlite_disk.specs.Disk.{Torn}
@@ -15,24 +15,16 @@ ok_weaker (Err e) P Q weaker p = p
 
 -- what was read is what it began with
 same : (g : Over) (c : goal.After-mend_end g) → g.D.Disk.seen c.replay.new.disk ≡ g.D.Disk.seen c.args.disk.now
-same g c =
-    c.replay.ensures.reads.seen ∙ c.is_ours.ensures.reads.seen ∙ c.measure.ensures.reads.seen ∙ c.sync.ensures.seen
+same g c = cc
 
 ends : (g : Over) (c : goal.After-mend_end g) → IsTrue (g.D.Disk.is_clean c.mend_end.new.disk)
     → EndsAt (g.D.Disk.seen c.args.disk.now) c.in_ok-end.end.at c.in_ok-end.end.count
-ends g c clean =
-    subst (λ f. EndsAt f c.in_ok-end.end.at c.in_ok-end.end.count)
-    (c.is_ours.ensures.reads.seen ∙ c.measure.ensures.reads.seen ∙ c.sync.ensures.seen)
-    (c.in_ok-end.ensures.end (c.mend_end.ensures.clean clean))
+ends g c clean = search (rules, arith)
 
 -- what a crash leaves differs in the two sectors at the end
 left : (g : Over) (c : goal.After-mend_end g) (file : List ℕ) → g.D.Disk.may_leave c.mend_end.new.disk file
     → Torn c.in_ok-end.end.at (sector + sector) (g.D.Disk.seen c.args.disk.now) file
-left g c file may =
-    let from = c.mend_end.ensures.crash file may in
-    let is = c.in_ok-sync.ensures.synced from.0 (c.measure.ensures.reads.crash from.0
-    (c.is_ours.ensures.reads.crash from.0 (c.replay.ensures.reads.crash from.0 from.1))) ∙ c.sync.ensures.seen in
-    subst (λ d. Torn c.in_ok-end.end.at (sector + sector) d file) is from.2
+left g c file may = search (rules, arith)
 
 pub returns-then-not-stands-clause-left : goal.returns-then-not-stands-clause-left
 returns-then-not-stands-clause-left g c is =
@@ -82,8 +74,4 @@ returns-clause-any_crash g c clean file may =
     )
 
 pub returns-clause-front : goal.returns-clause-front
-returns-clause-front g c all clean file may =
-    let old = g.D.Disk.seen c.args.disk.now in
-    line_stays old c.in_ok-end.end.at c.in_ok-end.end.count c.in_ok-end.ensures.begins.0 (ends g c clean) file
-    (left g c file may)
-    ∙ all old (g.met.D.Disk.seen_may_stay c.args.disk.now)
+returns-clause-front g c all clean file may = search (rules, arith, line_stays, ends, left)

@@ -1,4 +1,4 @@
-use Rattle.std.proofs.Common.{◌≡◌, ◌+◌, ◌≤◌, drop, slice_index, Some, IsTrue, inl, inr, sym, subst, ◌∙◌, arith}
+use Rattle.std.proofs.Common.{◌≡◌, ◌+◌, ◌≤◌, drop, slice_index, Some, IsTrue, inl, inr, sym, subst, ◌∙◌, arith, rules}
 use Rattle.std.specs.Prelude.{IfSome}
 use Rattle.sqlite_disk.specs.Disk.{Torn}
 use Rattle.journal.specs.Format.{staged, span, sector, number_in, length_in, sum_in, sum_here}
@@ -26,12 +26,7 @@ returns-in-Ok-clause-mended g c is clean =
     }
 
 pub write_head-requires-clause-within : goal.write_head-requires-clause-within
-write_head-requires-clause-within g c =
-    let copy = c.in-Some-2.copy in
-    let w = is_whole (32 + length_in copy) in
-    let within = subst (λ o. IfSome o (λ it. c.args.end.at + sector + span it ≤ c.args.len)) c.in-Some-2.is
-    c.in_ok-copy.ensures.within in
-    omega (arith, w.no_less, w.even, within)
+write_head-requires-clause-within g c = search (rules, arith, is_whole)
 
 pub returns-clause-mended : goal.returns-clause-mended
 returns-clause-mended g c is clean =

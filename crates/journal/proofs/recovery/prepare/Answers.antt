@@ -1,4 +1,4 @@
-use Rattle.std.proofs.Common.{◌∙◌, subst, arith}
+use Rattle.std.proofs.Common.{◌∙◌, subst, arith, rules}
 use Rattle.journal.specs.Format.{Rests}
 use Rattle.journal.specs.Reads.{Repairs}
 use Rattle.journal.proofs.Repaired.{same_repaired, line_repaired, rests_repaired}
@@ -49,23 +49,7 @@ returns-clause-rests g c clean =
     (omega (arith, c.in_ok-len.ensures.long.0)) (c.in_ok-len.ensures.there clean) (c.in_ok-len.ensures.shut clean))
 
 pub returns-in_err-len-clause-front : goal.returns-in_err-len-clause-front
-returns-in_err-len-clause-front g c all clean file may =
-    let mid = g.D.Disk.seen c.settle.new.disk in
-    let at = c.in_ok-end.end.at in
-    let read_clean = c.repair.ensures.clean clean in
-    let ends = c.in_ok-end.ensures.end read_clean in
-    let repairs : Repairs at mid file = subst (λ f. Repairs at f file) c.replay.ensures.reads.seen
-    (c.repair.ensures.crash clean file may) in
-    line_repaired mid at c.in_ok-end.end.count c.in_ok-end.ensures.begins.0 ends file repairs
-    ∙ c.in_ok-begun.ensures.line (c.replay.ensures.reads.clean read_clean)
+returns-in_err-len-clause-front g c all clean file may = search (rules, arith, line_repaired)
 
 pub returns-clause-front : goal.returns-clause-front
-returns-clause-front g c all clean file may =
-    let mid = g.D.Disk.seen c.settle.new.disk in
-    let at = c.in_ok-end.end.at in
-    let read_clean = c.repair.ensures.clean clean in
-    let ends = c.in_ok-end.ensures.end read_clean in
-    let repairs : Repairs at mid file = subst (λ f. Repairs at f file) c.replay.ensures.reads.seen
-    (c.repair.ensures.crash clean file may) in
-    line_repaired mid at c.in_ok-end.end.count c.in_ok-end.ensures.begins.0 ends file repairs
-    ∙ c.in_ok-begun.ensures.line (c.replay.ensures.reads.clean read_clean)
+returns-clause-front g c all clean file may = search (rules, arith, line_repaired)

@@ -1,7 +1,7 @@
+use Rattle.std.proofs.lemmas.Grind.{common_steps}
 use Rattle.std.proofs.Common.{◌≡◌, ◌+◌, ◌-◌, [], length, take, drop, Some, None, arith, rules, ap, sym, subst, ◌∙◌}
 use Rattle.std.proofs.Common.{length-drop, length-take}
 use Rattle.std.proofs.lemmas.List.{nil_from_length, drop_all, drop-take}
-use Rattle.journal.specs.Format.{first}
 use Rattle.journal.specs.Reads.{FindsSize}
 use Rattle.journal.proofs.Places.{take_within}
 use Rattle.journal.proofs.Reading.{first_nil}
@@ -9,13 +9,7 @@ use Rattle.journal.proofs.replay.read_record.Goals as goal
 
 pub returns-then-at-end-clause-found : goal.returns-then-at-end-clause-found
 returns-then-at-end-clause-found g c clean =
-    let file = take c.args.end (g.D.Disk.seen c.args.disk.now) in
-    ap first (nil_from_length (drop c.args.at file) (omega (
-      arith,
-      c.if-at-end.true,
-      length-drop c.args.at file,
-      length-take c.args.end (g.D.Disk.seen c.args.disk.now),
-    ))) ∙ first_nil
+    grind (arith, common_steps, nil_from_length, length-drop, length-take, first_nil)
 
 pub returns-in_default-clause-found : goal.returns-in_default-clause-found
 returns-in_default-clause-found g c clean =
@@ -42,16 +36,4 @@ returns-in_default-clause-found g c clean =
     ∙ ap (λ l. Some (c.read_to.new.bytes.items, l)) (sym (drop_all c.args.end file (omega (arith, long))))
 
 pub returns-clause-found : goal.returns-clause-found
-returns-clause-found g c clean =
-    let seen = g.D.Disk.seen c.args.disk.now in
-    let file = take c.args.end seen in
-    let at = c.args.at in
-    let size = c.in-Some.size in
-    let mid_clean = c.read_to-2.ensures.reads.clean clean in
-    let found : FindsSize file at (Some size) = subst (λ n. FindsSize file at n) c.in-Some.is
-    (c.in_ok-size.ensures.found mid_clean) in
-    let body : take size (drop (at + 8) seen) ≡ c.read_to-2.new.bytes.items =
-    ap (λ l. take size (drop (at + 8) l)) (sym c.read_size.ensures.reads.seen) ∙ c.in_ok-read_to-2.ensures.read clean
-    in
-    found ∙ ap (λ l. Some (l, drop (at + 8 + size) file))
-    (take_within seen (at + 8) size c.args.end (search (rules, arith, c.in_ok-size.ensures.within)) ∙ body)
+returns-clause-found g c clean = search (rules, arith, take_within)

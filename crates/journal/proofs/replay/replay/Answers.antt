@@ -1,12 +1,12 @@
 use Rattle.std.proofs.Common.{◌≡◌, ◌+◌, ◌≤◌, ◌++◌, ◌∷◌, [], Some, None, length, take, drop, length-append, length-drop}
-use Rattle.std.proofs.Common.{refl, subst, sym, ap, ◌∙◌, arith, rules}
+use Rattle.std.proofs.Common.{subst, sym, ap, ◌∙◌, arith, rules}
 use Rattle.std.proofs.lemmas.List.{drop-take}
 use Rattle.journal.specs.Format.{records, next, has_mark, sector, whole}
 use Rattle.journal.specs.Machine.{Runs, RunsRecords}
 use Rattle.journal.specs.Reads.{FindsBatch}
 use Rattle.journal.proofs.Listing.{is_whole}
 use Rattle.journal.proofs.Marks.{marked_more}
-use Rattle.journal.proofs.Scan.{read_none, read_more, read_all, runs_more}
+use Rattle.journal.proofs.Scan.{read_more, read_all, runs_more}
 use Rattle.journal.proofs.replay.replay.Goals as goal
 
 pub loop-bytes-preserved : goal.loop-bytes-preserved
@@ -68,25 +68,6 @@ loop-bytes-preserved g c =
             runs_more g.M.Machine.steps _ _ _ before.0 (head.time, records_here) before.4 ran,
           );
     }
-
-pub loop-bytes-init : goal.loop-bytes-init
-loop-bytes-init g c = record {
-  begins = omega arith;
-  even = omega arith;
-  within = c.requires.line;
-  few = omega arith;
-  reads =
-      record {
-        seen = refl;
-        clean = λ clean. clean;
-        usable = c.requires.usable;
-        faults = omega arith;
-        crash = λ left
-            may. may;
-      };
-  others = λ first kept. kept;
-  ran = λ clean. ([], read_none (g.D.Disk.seen c.args.disk.now), refl, refl, refl);
-}
 
 pub returns-clause-ran : goal.returns-clause-ran
 returns-clause-ran g c clean =

@@ -1,16 +1,10 @@
-use Rattle.std.proofs.Common.{◌≡◌, ◌++◌, ◌∷◌, [], List, ℕ, subst, sym, ap, ◌∙◌}
+use Rattle.std.proofs.Common.{◌++◌, ◌∷◌, [], List, ℕ, sym, ap, ◌∙◌}
 use Rattle.std.proofs.Common.{append_assoc}
 use Rattle.journal.specs.Format.{records}
 use Rattle.journal.specs.Reads.{IsFirst}
-use Rattle.journal.proofs.Reading.{first_less}
 use Rattle.journal.proofs.Scan.{records_more}
-use Rattle.journal.proofs.Pieces.{first_is, records_on, left_of, left_is}
+use Rattle.journal.proofs.Pieces.{records_on, left_of}
 use Rattle.journal.proofs.replay.run_whole.Goals as goal
-
-pub loop-record-smaller : goal.loop-record-smaller
-loop-record-smaller g c =
-    first_less c.loop-record.rest.now (c.in-Some.record.now, c.in-Some.behind.now)
-    (first_is c.loop-record.rest.now (c.in-Some.record.now, c.in-Some.behind.now) c.in-Some.ensures.some)
 
 pub loop-record-preserved : goal.loop-record-preserved
 loop-record-preserved g c =
@@ -30,10 +24,3 @@ loop-record-preserved g c =
             ∙ sym (append_assoc before.0 (one ∷ []) (records (behind ++ more))),
       );
     }
-
-pub returns-clause-ran : goal.returns-clause-ran
-returns-clause-ran g c =
-    let bytes = c.args.bytes.now in
-    let before = c.loop-record.invariant.ran in
-    let rest = left_is bytes c.loop-record.rest.now c.loop-record.invariant.passed in
-    (before.0, before.1, subst (λ l. (more : List ℕ) → records (bytes ++ more) ≡ before.0 ++ records (l ++ more)) rest before.2)

@@ -8,42 +8,17 @@ use Rattle.journal.proofs.Tears.{torn_wider, torn_both, follows_wider, follows_b
 use Rattle.journal.proofs.sectors.write_batch.Goals as goal
 
 pub returns-in_err-write_sectors-clause-others : goal.returns-in_err-write_sectors-clause-others
-returns-in_err-write_sectors-clause-others g c =
-    let n = 32 + length c.args.bytes.now in
-    let w = is_whole n in
-    let long : length c.sector_of.result ≡ 4096 = search rules in
-    torn_wider c.args.at (whole n) c.args.at (length c.sector_of.result) _ _ (omega arith)
-    (omega (arith, w.no_less, w.even)) c.write_sectors.ensures.others
+returns-in_err-write_sectors-clause-others g c = grind (arith, is_whole, torn_wider)
 
 pub returns-in_err-write_sectors-clause-crash : goal.returns-in_err-write_sectors-clause-crash
-returns-in_err-write_sectors-clause-crash g c =
-    let n = 32 + length c.args.bytes.now in
-    let w = is_whole n in
-    let long : length c.sector_of.result ≡ 4096 = search rules in
-    follows_wider c.args.at (whole n) c.args.at (length c.sector_of.result) _ _ (omega arith)
-    (omega (arith, w.no_less, w.even)) c.write_sectors.ensures.crash
+returns-in_err-write_sectors-clause-crash g c = search (rules, arith, is_whole, follows_wider)
 
 pub overflow_add-at : goal.overflow_add-at
-overflow_add-at g c =
-    let w = is_whole (32 + length c.args.bytes.now) in record
-    { fits = omega (arith, w.no_less, w.even, c.requires.fits) }
+overflow_add-at g c = omega (arith, is_whole (32 + length c.args.bytes.now))
 
 pub write_padded-requires-clause-fits : goal.write_padded-requires-clause-fits
 write_padded-requires-clause-fits g c =
-    let w = is_whole (32 + length c.args.bytes.now) in
-    let v = is_whole (length c.split_at.result.1.now) in
-    omega (
-      arith,
-      w.no_less,
-      w.even,
-      v.no_more,
-      v.no_less,
-      v.even,
-      c.requires.fits,
-      c.split_at.ensures.front_len,
-      c.split_at.ensures.back_len,
-      c.min.ensures,
-    )
+    omega (arith, is_whole (32 + length c.args.bytes.now), is_whole (length c.split_at.result.1.now))
 
 pub returns-clause-written : goal.returns-clause-written
 returns-clause-written g c =
@@ -97,22 +72,4 @@ returns-clause-others g c =
     )) c.write_padded.ensures.others)
 
 pub returns-clause-crash : goal.returns-clause-crash
-returns-clause-crash g c =
-    let n = 32 + length c.args.bytes.now in
-    let w = is_whole n in
-    let long : length c.sector_of.result ≡ 4096 = search rules in
-    let v = is_whole (length c.split_at.result.1.now) in
-    follows_both c.args.at (whole n) _ _ _
-    (follows_wider c.args.at (whole n) c.args.at (length c.sector_of.result) _ _ (omega arith)
-    (omega (arith, w.no_less, w.even)) c.write_sectors.ensures.crash)
-    (follows_wider c.args.at (whole n) (c.args.at + 4096) (whole (length c.split_at.result.1.now)) _ _ (omega arith)
-    (omega (
-      arith,
-      w.no_less,
-      w.even,
-      v.no_more,
-      v.even,
-      c.split_at.ensures.front_len,
-      c.split_at.ensures.back_len,
-      c.min.ensures,
-    )) c.write_padded.ensures.crash)
+returns-clause-crash g c = search (rules, arith, is_whole, follows_both, follows_wider)

@@ -1,4 +1,4 @@
-use Rattle.std.proofs.Common.{arith, length, ◌+◌, refl}
+use Rattle.std.proofs.Common.{arith, length, ◌+◌, refl, rules}
 use Rattle.journal.specs.Format.{whole}
 use Rattle.journal.proofs.Listing.{is_whole}
 use Rattle.journal.proofs.Tears.{torn_wider, torn_both, follows_wider, follows_both, joined}
@@ -6,16 +6,10 @@ use Rattle.std.proofs.lemmas.Result.{on_ok_weaker}
 use Rattle.journal.proofs.sectors.write_padded.Goals as goal
 
 pub returns-in_err-write_sectors-clause-others : goal.returns-in_err-write_sectors-clause-others
-returns-in_err-write_sectors-clause-others g c =
-    let w = is_whole (length c.args.bytes.now) in
-    torn_wider _ _ c.args.at _ _ _ (omega arith) (omega (arith, w.no_less, c.split_at.ensures.front_len))
-    c.write_sectors.ensures.others
+returns-in_err-write_sectors-clause-others g c = grind (arith, is_whole, torn_wider)
 
 pub returns-in_err-write_sectors-clause-crash : goal.returns-in_err-write_sectors-clause-crash
-returns-in_err-write_sectors-clause-crash g c =
-    let w = is_whole (length c.args.bytes.now) in
-    follows_wider _ _ c.args.at _ _ _ (omega arith) (omega (arith, w.no_less, c.split_at.ensures.front_len))
-    c.write_sectors.ensures.crash
+returns-in_err-write_sectors-clause-crash g c = search (rules, arith, is_whole, follows_wider)
 
 pub returns-clause-written : goal.returns-clause-written
 returns-clause-written g c =
@@ -42,19 +36,7 @@ returns-clause-others g c =
     c.write_last.ensures.others)
 
 pub returns-clause-crash : goal.returns-clause-crash
-returns-clause-crash g c =
-    let n = length c.args.bytes.now in
-    let w = is_whole n in
-    let v = is_whole (length c.split_at.result.1.now) in
-    follows_both c.args.at (whole n) _ _ _
-    (follows_wider c.args.at (whole n) c.args.at (length c.split_at.result.0.now) _ _ (omega arith)
-    (omega (arith, w.no_less, c.split_at.ensures.front_len)) c.write_sectors.ensures.crash)
-    (follows_wider c.args.at (whole n) (c.args.at + length c.split_at.result.0.now)
-    (whole (length c.split_at.result.1.now)) _ _ (omega arith)
-    (omega (arith, w.no_less, w.even, v.no_more, v.even, c.split_at.ensures.front_len, c.split_at.ensures.back_len))
-    c.write_last.ensures.crash)
+returns-clause-crash g c = search (rules, arith, is_whole, follows_both, follows_wider)
 
 pub overflow_add-at : goal.overflow_add-at
-overflow_add-at g c =
-    let w = is_whole (length c.args.bytes.now) in record
-    { fits = omega (arith, w.no_less, c.split_at.ensures.front_len, c.requires.fits) }
+overflow_add-at g c = omega (arith, is_whole (length c.args.bytes.now))

@@ -1,5 +1,5 @@
-use Rattle.std.proofs.Common.{inl, inr, ◌≡◌, ◌++◌, ◌∷◌, [], OnOk, Ok, Err}
-use Rattle.journal.specs.Format.{block, records}
+use Rattle.std.proofs.Common.{inl, inr, ◌≡◌, ◌++◌, arith, rules}
+use Rattle.journal.specs.Format.{block}
 use Rattle.journal.proofs.Batches.{pushed_batch, records_pushed, still_batch, added_or_not, IsBatch}
 use Rattle.journal.proofs.batch.Batch.add.Goals as goal
 
@@ -17,12 +17,4 @@ invariant_of-self c =
     record { whole = it.whole; short = it.short }
 
 pub returns-clause-ok : goal.returns-clause-ok
-returns-clause-ok c =
-    let old = c.args.self.now.bytes.items in
-    let new = c.put_block.new.out.items in
-    elim c.put_block.result as (λ r. OnOk r (new ≡ old ++ block c.args.bytes.now) → OnOk r
-    (records new ≡ records old ++ c.args.bytes.now ∷ [])) [
-      | Ok x ↦ λ added. records_pushed old new c.args.bytes.now c.args.self.now.whole c.args.self.now.short
-          c.put_block.ensures.short added
-      | Err e ↦ λ none. none
-    ] c.put_block.ensures.ok
+returns-clause-ok c = search (rules, arith, records_pushed)

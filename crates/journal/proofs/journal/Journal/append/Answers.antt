@@ -1,4 +1,4 @@
-use Rattle.std.proofs.Common.{take, ◌≤◌, ◌≡◌, ◌+◌, length, subst, sym, ap, ◌∙◌, inl, inr, arith, rules}
+use Rattle.std.proofs.Common.{◌≡◌, ◌+◌, length, subst, sym, ap, ◌∙◌, inl, inr, arith, rules}
 use Rattle.sqlite_disk.specs.Disk.{Torn}
 use Rattle.journal.specs.Gate.{IsStaged}
 use Rattle.journal.specs.Batch.{batch_size}
@@ -77,10 +77,7 @@ returns-in-Err-open_gate-clause-front g c opened clean file may =
     (omega arith) (subst (λ d. Torn it.end sector d file) (c.in_default-stage.ensures.synced from.0 from.1) from.2)
 
 pub invariant_of-self-2-clause-begins : goal.invariant_of-self-2-clause-begins
-invariant_of-self-2-clause-begins g c =
-    let w = is_whole (32 + length c.bytes-bytes.result.now) in
-    let it = c.args.self.now in
-    omega (arith, w.even, it.begins, c.in-Some.ensures.0)
+invariant_of-self-2-clause-begins g c = omega (arith, is_whole (32 + length c.bytes-bytes.result.now))
 
 pub invariant_of-self-2-clause-counted : goal.invariant_of-self-2-clause-counted
 invariant_of-self-2-clause-counted g c opened clean =
@@ -106,13 +103,7 @@ invariant_of-self-2-clause-rests g c opened clean file may =
     kept_alone _ _ _ _ _ file done (c.in_default-open_gate.ensures.synced file may)
 
 pub returns-clause-copied : goal.returns-clause-copied
-returns-clause-copied g c clean =
-    let end = c.args.self.now.end in
-    let file = g.D.Disk.seen c.stage.new.disk in
-    let staged = c.in_default-stage.ensures.staged in
-    let within : end + sector ≤ length file = omega (arith, staged.after, staged.within) in
-    c.in_default-open_gate.ensures.copied ∙ c.head_of-head.ensures ∙ sym c.in_default-stage.ensures.headed
-    ∙ sym (ap (λ l. take 32 l) (same_back end sector _ _ c.open_gate.ensures.others within))
+returns-clause-copied g c clean = search (rules, arith, same_back)
 
 pub returns-clause-added : goal.returns-clause-added
 returns-clause-added g c clean =
@@ -126,8 +117,7 @@ returns-clause-added g c clean =
     c.max-self.ensures)
 
 pub returns-clause-durable : goal.returns-clause-durable
-returns-clause-durable g c clean file may =
-    ap stored (c.in_default-open_gate.ensures.synced file may) ∙ returns-clause-added g c clean
+returns-clause-durable g c clean file may = search (rules, arith, returns-clause-added)
 
 pub returns-clause-any_crash : goal.returns-clause-any_crash
 returns-clause-any_crash g c opened clean file may = inr (returns-clause-durable g c clean file may)

@@ -4,17 +4,15 @@ use Rattle.journal.proofs.journal.Journal.fill.Goals as goal
 
 pub returns-then-from-end-clause-any_crash : goal.returns-then-from-end-clause-any_crash
 returns-then-from-end-clause-any_crash g c clean file may =
-    stored_rests _ _ _ _ file (c.args.self.now.rests c.requires.open clean file may)
+    cc (stored_rests _ _ _ _ file (c.args.self.now.rests c.requires.open clean file may))
 
 pub returns-in-Ok-clause-any_crash : goal.returns-in-Ok-clause-any_crash
 returns-in-Ok-clause-any_crash g c clean file may =
-    stored_rests _ _ _ _ _
-    (c.blank.ensures.kept _ _ _ (c.args.self.now.rests c.requires.open (c.blank.ensures.clean clean)) file may)
+    cc (stored_rests _ _ _ _ _ (c.blank.ensures.kept _ _ _ (c.args.self.now.rests c.requires.open (c.blank.ensures.clean clean)) file may))
 
 pub returns-in-Err-clause-any_crash : goal.returns-in-Err-clause-any_crash
 returns-in-Err-clause-any_crash g c clean file may =
-    stored_rests _ _ _ _ _
-    (c.blank.ensures.kept _ _ _ (c.args.self.now.rests c.requires.open (c.blank.ensures.clean clean)) file may)
+    cc (stored_rests _ _ _ _ _ (c.blank.ensures.kept _ _ _ (c.args.self.now.rests c.requires.open (c.blank.ensures.clean clean)) file may))
 
 pub returns-in-Err-clause-front : goal.returns-in-Err-clause-front
 returns-in-Err-clause-front g c clean file may =
