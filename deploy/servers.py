@@ -33,6 +33,8 @@ LINES = 10
 DIES_WITH_PARENT = 1
 # below those that Linux gives to connections
 FREE_PORTS = 10_000, 32_768
+# the addresses that `free_address` gave
+given = set()
 
 # How to see that a package of Debian's is there that isn't named as its program is.
 PACKAGES = {"lua-cjson": lambda: glob.glob("/usr/lib/*/lua/5.*/cjson.so"), "nginx-light": lambda: program("nginx")}
@@ -75,10 +77,11 @@ def is_taken(address):
 
 
 def free_address():
-    """An address that nobody listens on now. Its port is none that the system gives to connections, so none of them has it
-    by the time that it is listened on."""
-    while is_taken(address := f"127.0.0.1:{random.randrange(*FREE_PORTS)}"):
+    """An address that nobody listens on now, and that wasn't given before. Its port is none that the system gives to
+    connections, so none of them has it by the time that it is listened on."""
+    while is_taken(address := f"127.0.0.1:{random.randrange(*FREE_PORTS)}") or address in given:
         pass
+    given.add(address)
     return address
 
 

@@ -20,6 +20,8 @@ from harness.suite import case, check, equal, main, skip
 from harness.wire import PATIENCE, sha256, sha512, vanish
 
 UPLOADS = "/v2/lib/a/blobs/uploads/"
+# how many may be open
+MOST_UPLOADS = 1_024
 
 
 @case()
@@ -439,11 +441,13 @@ def closes_at_once_share_a_hash():
 
 @case("cc")
 def many_bytes_go_in_a_thread(folder):
-    """The bytes of a body that is refused, and of a blob whose place another takes, go in a thread if they are many, so
-    that nobody waits for that. Few go where their request is served."""
-    told, content = os.path.join(folder, "told"), bytes(20 * MIB)
+    """The bytes of a chunk that is refused, of a blob whose place another takes, and of an idle upload that leaves a full
+    table go in a thread if they are many, so that nobody waits for that. Few go where their request is served."""
+    told, ahead, content = os.path.join(folder, "told"), os.path.join(folder, "ahead"), bytes(20 * MIB)
     counted = shims.loaded(folder, "threads", THREADS_TOLD=told)
-    with Server(env=counted | {"BLOBD_WORKERS": 1}) as server, server.client() as client:
+    late = shims.loaded(folder, "ahead", CLOCK_AHEAD=ahead)
+    shims.pass_time(ahead, 0)
+    with Server(env=shims.together(counted, late) | {"BLOBD_WORKERS": 1}) as server, server.client() as client:
 
         def begun(*request, **fields):
             """The status of a request, and how many threads began meanwhile."""
@@ -451,13 +455,18 @@ def many_bytes_go_in_a_thread(folder):
             status = client.ask(*request, **fields).status
             return status, len(shims.told(told)) - before
 
-        for name, size, threads in (("few", MIB, 0), ("many", len(content), 1)):
+        for name, size, threads in (("few", 12 * MIB, 0), ("many", len(content), 1)):
             missed = begun("PATCH", client.opened("lib/a"), content[:size], Content_Range=f"1-{size}")
             equal(f"a chunk of {name} bytes that misses its place", missed, (416, threads))
         for name, threads in (("a blob", 0), ("the same again, which takes its place", 1)):
             place = client.opened("lib/a")
-            equal(f"{name}: its chunk", client.ask("PATCH", place, content).status, 202)
-            equal(name, begun("PUT", f"{place}?digest={sha256(content)}"), (201, threads))
+            equal(f"{name}: its first byte", client.ask("PATCH", place, content[:1]).status, 202)
+            equal(name, begun("PUT", f"{place}?digest={sha256(content)}", content[1:]), (201, threads))
+        sizes = len(content), *[1] * (MOST_UPLOADS - 3)
+        left = [client.ask("PATCH", client.opened("lib/a"), content[:size]).status for size in sizes]
+        equal("uploads that their client leaves", left, [202] * len(sizes))
+        shims.pass_time(ahead, 3_700)
+        equal("one more than the table has", begun("POST", UPLOADS), (202, 1))
 
 
 if __name__ == "__main__":

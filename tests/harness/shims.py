@@ -15,6 +15,11 @@ def loaded(folder, name, **variables):
     return {"LD_PRELOAD": library, **variables}
 
 
+def together(one, other):
+    """The variables by which a process is loaded with both."""
+    return {**one, **other, "LD_PRELOAD": f"{one['LD_PRELOAD']}:{other['LD_PRELOAD']}"}
+
+
 def pass_time(path, seconds):
     """Has the clocks of what is loaded with `ahead`, and was told this path, go ahead by so many seconds."""
     # a clock that is read meanwhile finds the whole number

@@ -1,4 +1,5 @@
-/* Refuses every thread behind the first THREADS_ALLOWED, as a system that has no room for one more. Tells each that is asked for: a line with its number, behind the file that THREADS_TOLD names. Either variable may be absent. */
+/* Refuses every thread behind the first THREADS_ALLOWED, as a system that has no room for one more. Tells each other one:
+   a line with its number, at the end of the file that THREADS_TOLD names. Either variable may be absent. */
 #define _GNU_SOURCE
 #include <dlfcn.h>
 #include <errno.h>

@@ -154,7 +154,7 @@ impl<'a, L: Accepts + Drop, R: Clock + Eprint + Wait> Accepted<'a, L, R> {
         ensures told { IfOk result (λ ends.
             L.history self.new.door ≡ L.history self.old.door ++ made ∷ []) }
         ensures none { OnErr result (L.history self.new.door ≡ L.history self.old.door) }
-        ensures same { self.new.left ≡ self.old.left }
+        ensures same { (self.new.left ≡ self.old.left) × (self.new.demand ≡ self.old.demand) }
     {
         for _ in 0..u64::MAX {
             let error = match self.door.accept() {
@@ -177,10 +177,12 @@ impl<'a, L: Accepts + Drop, R: Clock + Eprint + Wait> Accepted<'a, L, R> {
     fn accept(&mut self) -> io::Result<(Reader<'a, L, R>, Writer<'a, L, R>)>
         ensures new { IfOk result (λ halves. (L.In.given halves.0.end.stream
             ≡ record { bytes = []; ended = false }) × (L.Out.taken halves.1.end.stream ≡ [])) }
+        ensures paced { IfOk result (λ halves. (halves.0.end.watch.demand ≡ self.old.demand)
+            × (halves.1.end.watch.demand ≡ self.old.demand)) }
         ensures told { IfOk result (λ ends.
             L.history self.new.door ≡ L.history self.old.door ++ made ∷ []) }
         ensures none { OnErr result (L.history self.new.door ≡ L.history self.old.door) }
-        ensures same { self.new.left ≡ self.old.left }
+        ensures same { (self.new.left ≡ self.old.left) × (self.new.demand ≡ self.old.demand) }
     {
         if self.is_lent {
             return Err(io::Error::from(ErrorKind::ResourceBusy));
@@ -207,19 +209,23 @@ where
 
     type Out = Writer<'a, L, R>;
 
-    // One fewer is left behind each that it gives. That one was accepted, and nothing was read or written over it. If
-    // it gives none, none was accepted.
+    // One fewer is left behind each that it gives. That one was accepted, nothing was read or written over it, and of
+    // its client is asked what is asked of each. If it gives none, none was accepted.
     ghost gives = { λ old given new. MatchOption given
         (L.history new.door ≡ L.history old.door)
         (λ halves. (new.left + 1 ≡ old.left)
         × (L.In.given halves.0.end.stream ≡ record { bytes = []; ended = false })
         × (L.Out.taken halves.1.end.stream ≡ [])
-        × (L.history new.door ≡ L.history old.door ++ made ∷ [])) };
+        × (L.history new.door ≡ L.history old.door ++ made ∷ [])
+        × (halves.0.end.watch.demand ≡ old.demand) × (halves.1.end.watch.demand ≡ old.demand)
+        × (new.demand ≡ old.demand)) };
 
-    // It was given back, with all that was read and written over it, and as many are left as before.
+    // It was given back, with all that was read and written over it. As many are left as before, of which is asked the
+    // same.
     ghost takes_back = { λ old halves new. (new.left ≡ old.left)
         × (L.history new.door ≡ L.history old.door
-        ++ given_back (L.In.given halves.0.end.stream) (L.Out.taken halves.1.end.stream) ∷ []) };
+        ++ given_back (L.In.given halves.0.end.stream) (L.Out.taken halves.1.end.stream) ∷ [])
+        × (new.demand ≡ old.demand) };
 
     // It was served, as whoever lent the door has it.
     ghost may_come_back = { λ conns halves.

@@ -253,7 +253,7 @@ pub(crate) struct Half<'a, S, R> {
 impl<'a, S, R> Half<'a, S, R> {
     /// The half over this end of a connection, of which nothing was read or written yet.
     pub(crate) fn new(rt: &'a R, stream: S, turn: Turn, demand: Demand) -> Half<'a, S, R>
-        ensures { result.stream ≡ stream }
+        ensures { (result.stream ≡ stream) × (result.watch.demand ≡ demand) }
     {
         Half {
             stream,

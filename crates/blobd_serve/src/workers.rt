@@ -158,7 +158,7 @@ where
     R: AllocGlobal + Clock + RandomSource + Eprint + Wait,
     requires { L.is_free door }
     ensures { IfOk result (λ worker. (worker.conns.door ≡ door)
-        × (worker.conns.left ≡ terms.count)) }
+        × (worker.conns.left ≡ terms.count) × (worker.conns.demand ≡ terms.demand)) }
 {
     let Ok(secrets) = system_secrets(rt) else {
         return Err(Lack::Secrets);
