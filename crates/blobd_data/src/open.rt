@@ -429,7 +429,8 @@ fn open_store<R: Threads, J: Start, S: Start, H: Holds, T: KeepingHost + Drop>(
 /// No other server can have it from then on. What its journal has is run again, so that the service is as it was, but
 /// for what is lost of a directory that is damaged, if `damaged` has it opened all the same. The service holds no more
 /// than `room` grants, if there is one. The bodies that the journal names are read, and hashed, in threads, which have
-/// ended by then. Which values stand for `J`, `S` and `H` says nothing: what holds of all of them holds of what is there.
+/// ended by then. Which values stand for `J`, `S` and `H` says nothing: what holds of all of them holds of what is
+/// there.
 ///
 /// `Folder`, `Journal` and `Bodies` say what can't be opened or made. `NotEmpty`: there is no journal, but something
 /// that no server has made. `NoBodies`: there is a journal, and no folder of bodies. `NoJournal`: there are bodies, and

@@ -1,14 +1,13 @@
 -- Fields that are read exactly: what is read is what was written, and what was written is read again.
-use Rattle.std.proofs.Common.{◌≡◌, ℕ, ◌+◌, ◌^◌, ◌<◌, ◌≤◌, Bool, true, false, cond, ltb, List, ◌++◌}
+use Rattle.std.proofs.Common.{◌≡◌, ℕ, ◌+◌, ◌^◌, ◌<◌, Bool, true, false, cond, List, ◌++◌, rules}
 use Rattle.std.proofs.Common.{length, get_or, take, drop, Option, Some, None, Result, Ok, Err, refl, sym, ap, subst}
-use Rattle.std.proofs.Common.{◌∙◌, append_assoc, arith, inl, inr}
+use Rattle.std.proofs.Common.{◌∙◌, append_assoc, arith}
 use Rattle.std.specs.Int.{Width, w32, w64, byte_len, from_be_bytes, to_be_bytes}
 use Rattle.std.proofs.lemmas.Bool.{cases_lt, ltb-false, le-ltb}
 use Rattle.std.proofs.lemmas.List.{take_at, drop_at, take-append-drop, length-append, length-take, get_or-drop}
 use Rattle.std.proofs.lemmas.List.{get_or-take, get_or_past}
 use Rattle.std.proofs.lemmas.Nat.{be_bytes_4, be_bytes_8, from_be_bytes-to_be_bytes_4, from_be_bytes-to_be_bytes_8}
 use Rattle.upload_journal.specs.declared.fault.EntryFault.{EntryFault}
-use Rattle.upload_journal.specs.declared.fault.EntryFault.TheVariants.{Short}
 use Rattle.upload_journal.specs.Fields.{◌>>=◌, Read, both, made, or_fault, tested, bytes_at, number_at, text_at}
 use Rattle.upload_journal.specs.Fields.{measured, IsMeasured}
 
@@ -19,11 +18,7 @@ IsBytes-drop : (n : ℕ) (bytes : List ℕ) → IsBytes bytes → IsBytes (drop 
 IsBytes-drop n bytes h i = rw get_or-drop (h (n + i))
 
 pub IsBytes-take : (n : ℕ) (bytes : List ℕ) → IsBytes bytes → IsBytes (take n bytes)
-IsBytes-take n bytes h i =
-    elim (cases_lt i n) [
-      | inl lt ↦ rw (get_or-take n bytes i 0 lt) (h i)
-      | inr le ↦ rw (get_or_past (take n bytes) i 0 (omega (arith, length-take n bytes))) (omega arith)
-    ]
+IsBytes-take n bytes h i = search (rules, arith, cases_lt, get_or-take, get_or_past, length-take)
 
 -- the value of a step that did not fail
 pub bind_ok : {A B : Type 0} (r : Result A EntryFault) (f : A → Result B EntryFault) (y : B) → (r >>= f) ≡ Ok y
@@ -104,9 +99,7 @@ made_again make r t V f x rest lawful = rw (f.again x rest lawful) refl
 
 some_of : {B : Type 0} (fault : EntryFault) (o : Option B) (y : B) (rest after : List ℕ)
     → or_fault fault after o ≡ Ok (y, rest) → (o ≡ Some y) × (after ≡ rest)
-some_of {B = B} fault (Some x) y rest after e =
-    let is = ok_is (x, after) (y, rest) e in
-    (ap (λ (p : B × List ℕ). Some p.0) is, ap (λ (p : B × List ℕ). p.1) is)
+some_of {B = B} fault (Some x) y rest after e = search (rules, arith, ok_is)
 some_of fault None y rest after e = absurd cc
 
 -- what passes a test: each lawful value has one text that passes as it
@@ -133,25 +126,26 @@ tested_exact {B = B} test fault r t V spell W f p = record {
 
 pub bytes_exact : (n : ℕ) → IsExact (bytes_at n) (λ x. x) (λ x. length x ≡ n)
 unfolding bytes_at
-bytes_exact n = record {
-  takes = λ bytes x rest fits e.
-      let g = guard_ok (ltb (length bytes) n) Short (Ok (take n bytes, drop n bytes)) (x, rest) e in
-      let long : n ≤ length bytes = ltb-false _ _ g.0 in
-      subst (λ (p : List ℕ × List ℕ). (bytes ≡ p.0 ++ p.1) × (length p.0 ≡ n) × IsBytes p.1)
-      (ok_is (take n bytes, drop n bytes) (x, rest) g.1)
-      (sym (take-append-drop n bytes), omega (arith, length-take n bytes), IsBytes-drop n bytes fits);
-  again = λ x rest len.
-      let long : ltb (length (x ++ rest)) n ≡ false = le-ltb _ _ (omega (arith, length-append x rest)) in
-      rw (long, take_at x rest n len, drop_at x rest n len) refl;
-}
+bytes_exact n =
+    search (
+      rules,
+      arith,
+      guard_ok,
+      ltb-false,
+      ok_is,
+      take-append-drop,
+      length-take,
+      IsBytes-drop,
+      le-ltb,
+      length-append,
+      take_at,
+      drop_at,
+    )
 
 -- as bytes_exact, with what is known of the bytes that were taken
 taken_fits : (n : ℕ) (bytes x rest : List ℕ) → IsBytes bytes → bytes_at n bytes ≡ Ok (x, rest) → IsBytes x
 unfolding bytes_at
-taken_fits n bytes x rest fits e =
-    let g = guard_ok (ltb (length bytes) n) Short (Ok (take n bytes, drop n bytes)) (x, rest) e in
-    subst (λ (p : List ℕ × List ℕ). IsBytes p.0) (ok_is (take n bytes, drop n bytes) (x, rest) g.1)
-    (IsBytes-take n bytes fits)
+taken_fits n bytes x rest fits e = search (rules, arith, guard_ok, ok_is, IsBytes-take)
 
 pub record IsWide (w : Width) (limit : ℕ) : Type 0 where
   pub len : (n : ℕ) → length (to_be_bytes w n) ≡ byte_len w
@@ -161,20 +155,10 @@ pub record IsWide (w : Width) (limit : ℕ) : Type 0 where
   pub below : (bytes : List ℕ) → IsBytes bytes → from_be_bytes w bytes < limit
 
 wide32 : IsWide w32 (2 ^ 32)
-wide32 = record {
-  len = λ n. refl;
-  back = λ bytes len fits. be_bytes_4 bytes _ len fits refl;
-  again = λ n lt. from_be_bytes-to_be_bytes_4 n lt;
-  below = λ bytes fits. omega (arith, fits 0, fits 1, fits 2, fits 3);
-}
+wide32 = search (rules, arith, be_bytes_4, from_be_bytes-to_be_bytes_4)
 
 wide64 : IsWide w64 (2 ^ 64)
-wide64 = record {
-  len = λ n. refl;
-  back = λ bytes len fits. be_bytes_8 bytes _ len fits refl;
-  again = λ n lt. from_be_bytes-to_be_bytes_8 n lt;
-  below = λ bytes fits. omega (arith, fits 0, fits 1, fits 2, fits 3, fits 4, fits 5, fits 6, fits 7);
-}
+wide64 = search (rules, arith, be_bytes_8, from_be_bytes-to_be_bytes_8)
 
 wide_exact : (w : Width) (limit : ℕ) → IsWide w limit → IsExact (number_at w) (to_be_bytes w) (λ n. n < limit)
 unfolding number_at

@@ -1,12 +1,10 @@
 -- Why an entry was not applied.
-use Rattle.std.proofs.Common.{ℕ, zero, suc, ◌<◌, ◌≤◌, List, [], ◌∷◌, length, get_or}
+use Rattle.std.proofs.Common.{ℕ, zero, suc, ◌<◌, ◌≤◌, List, [], ◌∷◌, length, get_or, rules}
 use Rattle.std.proofs.Common.{inl, inr, arith}
 use Rattle.upload_journal.specs.declared.bodies.BodyFault.{BodyFault}
 use Rattle.upload_journal.specs.declared.body.BodyFile.{BodyFile}
 use Rattle.upload_journal.specs.declared.entries.KeptExchange.{KeptExchange}
 use Rattle.upload_journal.specs.declared.replay.ReplayFault.{ReplayFault}
-use Rattle.upload_journal.specs.declared.replay.ReplayFault.TheVariants.{NoMemory, NotAnEntry, MomentFalls, NoBody}
-use Rattle.upload_journal.specs.declared.replay.ReplayFault.TheVariants.{OtherLength, NotAsRecorded}
 use Rattle.upload_journal.specs.Replay.{Point}
 use Rattle.upload_journal.specs.Stops.{OfOne, FilesFail, files_in, ExchangeFails}
 
@@ -23,9 +21,4 @@ of_none P none (file ∷ files) is = elim is [ inl here ↦ none file here | inr
 module _ (stands : ℕ → List ℕ → Type 0) (refused : ℕ → BodyFault → Type 0) (old : Point) (entry : KeptExchange) where
   pub files_fail : old.last ≤ entry.now → (fault : ReplayFault) → FilesFail stands refused (files_in entry.ask) fault
       → ExchangeFails stands refused old entry fault
-  files_fail later NoMemory fails = tt
-  files_fail later (NotAnEntry fault) fails = of_none _ (λ file h. h) (files_in entry.ask) fails
-  files_fail later MomentFalls fails = absurd (of_none _ (λ file h. h) (files_in entry.ask) fails)
-  files_fail later (NoBody number fault) fails = (later, fails)
-  files_fail later (OtherLength number) fails = (later, fails)
-  files_fail later NotAsRecorded fails = absurd (of_none _ (λ file h. h) (files_in entry.ask) fails)
+  files_fail h1 fault h2 = search (rules, arith, of_none)

@@ -1,6 +1,6 @@
 -- Files that are read one after another, as a loop reads them.
 use Rattle.std.proofs.Common.{◌≡◌, ℕ, zero, suc, ◌-◌, ◌+◌, ◌≤◌, ◌<◌, List, [], ◌∷◌, ◌++◌, Ok, Err, refl, sym, ap}
-use Rattle.std.proofs.Common.{◌∙◌, append_assoc, arith, length, take, get_or}
+use Rattle.std.proofs.Common.{◌∙◌, append_assoc, arith, length, take, get_or, rules}
 use Rattle.std.specs.List.{flat_map}
 use Rattle.std.proofs.lemmas.List.{append-nil}
 use Rattle.std.proofs.lemmas.List.Concat.{flat_map-cons}
@@ -42,11 +42,7 @@ ends (errors.Fault fault) front count i bytes total lt h so_far =
 pub is_done : (front : List BodyFile) (count i : ℕ) (bytes : List ℕ) (total : Read (List BodyFile)) → count ≤ i
     → with_front front (files_of (count - i) bytes) ≡ total → total ≡ Ok (front, bytes)
 unfolding files_of
-is_done front count i bytes total le so_far =
-    let k : count - i ≡ 0 = omega arith in
-    let one : with_front front (files_of (count - i) bytes) ≡ Ok (front, bytes) =
-    rw k (ap (λ (files : List BodyFile). Ok (files, bytes)) (append-nil front)) in
-    sym so_far ∙ one
+is_done front count i bytes total le so_far = search (rules, arith, append-nil)
 
 -- ---- files that are written one after another
 
@@ -55,9 +51,4 @@ pub texts_next : (files : List BodyFile) (i : ℕ) (d : BodyFile) → i < length
 texts_next [] i d lt = absurd (omega arith)
 texts_next (file ∷ files) zero d lt = flat_map-cons file_text file [] ∙ append-nil (file_text file)
 texts_next (file ∷ files) (suc i) d lt =
-    let e : suc i + 1 ≡ suc (i + 1) = omega arith in
-    ap (λ n. flat_map file_text (take n (file ∷ files))) e
-    ∙ flat_map-cons file_text file (take (i + 1) files)
-    ∙ ap (λ r. file_text file ++ r) (texts_next files i d (omega arith))
-    ∙ sym (append_assoc (file_text file) (flat_map file_text (take i files)) (file_text (get_or files i d)))
-    ∙ ap (λ r. r ++ file_text (get_or files i d)) (sym (flat_map-cons file_text file (take i files)))
+    search (rules, arith, flat_map-cons, append_assoc, texts_next files i d (omega arith))

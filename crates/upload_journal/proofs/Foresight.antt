@@ -1,6 +1,6 @@
 -- A request that changes something is answered as was foreseen.
-use Rattle.std.proofs.Common.{◌≡◌, ◌≢◌, ◌⊎◌, ◌∙◌, inl, inr, ℕ, Bool, true, false, List, ◌++◌, length, Option, Some}
-use Rattle.std.proofs.Common.{None, refl, sym, ap, cond}
+use Rattle.std.proofs.Common.{◌≡◌, ◌≢◌, ◌⊎◌, inl, inr, ℕ, Bool, true, false, List, length, Option, Some}
+use Rattle.std.proofs.Common.{None, refl, cond, arith, rules}
 use Rattle.std.proofs.Common.{length-append}
 use Rattle.std.specs.Prelude.{nat_le, ◌||◌, ◌+◌}
 use Rattle.std.specs.Option.{option_map}
@@ -15,8 +15,8 @@ use Rattle.upload_service.specs.declared.ask.Extent.{Extent}
 use Rattle.upload_service.specs.Machine.{State, Session, Outcome, Replies, Begins, Mounts, blob_reply}
 use Rattle.upload_service.specs.Machine.{answer_of, outcome, unless_fault}
 use Rattle.upload_service.specs.Machine.{checked, at_session, in_session, unless_idle}
-use Rattle.upload_service.specs.Machine.{is_idle, opening}
-use Rattle.upload_service.specs.Machine.{last_number, progress_of, Turn, holds}
+use Rattle.upload_service.specs.Machine.{opening}
+use Rattle.upload_service.specs.Machine.{last_number, Turn}
 use Rattle.upload_service.specs.UploadView.{Act, Sends, AsksOffset, Closes}
 use Rattle.upload_names.specs.Reference.{reference}
 use Rattle.upload_journal.specs.declared.entries.Told.{Told}
@@ -48,9 +48,7 @@ tells_checked : (digest : Option Digest) (blob : List ℕ) (done : Digest → Ou
     → ((d : Digest) → told_of (answer_of (done d)) ≡ Some (Stored d))
     → Tells (option_map Stored digest) (checked digest blob done)
 tells_checked None blob done h = tells_nothing None _ (nothing _ refl)
-tells_checked (Some digest) blob done h =
-    tells_if (Some (Stored digest)) _ (done digest) _ (record { tells = inr (h digest) })
-    (tells_nothing (Some (Stored digest)) _ (nothing _ refl))
+tells_checked (Some digest) blob done h = search (rules, arith, tells_if, tells_nothing, nothing)
 
 -- an opening, by whether the table is full
 by_full : (b : Bool) (issued : ℕ) (name secret : List ℕ)
@@ -58,9 +56,7 @@ by_full : (b : Bool) (issued : ℕ) (name secret : List ℕ)
     (cond (b || nat_le last_number issued) (Replies (answers.Refused refusals.TooMany))
     (Begins name (reference (issued + 1) secret)))
 by_full true issued name secret = tells_nothing _ _ (nothing _ refl)
-by_full false issued name secret =
-    both_ways (nat_le last_number issued) (λ full. rw full (tells_nothing _ _ (nothing _ refl)))
-    (λ some. rw some (as_told _))
+by_full false issued name secret = search (rules, arith, both_ways, tells_nothing, nothing, as_told)
 
 tells_opening : (s : State) (name secret : List ℕ) (now : ℕ)
     → Tells (next_told s.issued secret) (opening s name secret now)
@@ -75,21 +71,15 @@ by_idle told max_blob false session name at act h = tells_if told _ _ _ h (tells
 tells_chunk : (max_blob max_idle now : ℕ) (found : Option Session) (name at : List ℕ) (range : Extent) (body : List ℕ)
     → Tells (option_map (λ (session : Session). Taken (length session.received + length body)) found)
     (at_session max_blob (unless_idle max_idle now found) name at (Sends range body))
-tells_chunk max_blob max_idle now None name at range body = tells_nothing None _ (nothing _ refl)
-tells_chunk max_blob max_idle now (Some session) name at range body =
-    by_idle _ max_blob (is_idle max_idle now session) session name at (Sends range body)
-    (tells_unless _ _ _ (silent_body max_blob (progress_of session name at) range body)
-    (record { tells = inr (ap (λ n. Some (Taken n)) (length-append session.received body)) }))
+tells_chunk max_blob max_idle now found name at range body =
+    search (rules, arith, tells_nothing, nothing, by_idle, tells_unless, silent_body, length-append)
 
 tells_close : (max_blob max_idle now : ℕ) (found : Option Session) (name at : List ℕ) (range : Extent)
     (digest : Option Digest) (body : List ℕ)
     → Tells (option_map Stored digest)
     (at_session max_blob (unless_idle max_idle now found) name at (Closes range digest body))
-tells_close max_blob max_idle now None name at range digest body = tells_nothing _ _ (nothing _ refl)
-tells_close max_blob max_idle now (Some session) name at range digest body =
-    by_idle _ max_blob (is_idle max_idle now session) session name at (Closes range digest body)
-    (tells_unless _ _ _ (silent_body max_blob (progress_of session name at) range body)
-    (tells_checked digest (session.received ++ body) _ (λ d. refl)))
+tells_close max_blob max_idle now found name at range digest body =
+    search (rules, arith, tells_nothing, nothing, by_idle, tells_unless, silent_body, tells_checked)
 
 tells_mount : (s : State) (name source secret : List ℕ) (digest : Digest) (now : ℕ) (b : Bool)
     → Tells (cond b (Some (Stored digest)) (next_told s.issued secret))
@@ -105,33 +95,26 @@ tells_blob told digest head (Some blob) = tells_nothing told _ (nothing _ refl)
 tells_status : (max_blob : ℕ) (found : Option Session) (name at : List ℕ)
     → Tells None (at_session max_blob found name at AsksOffset)
 tells_status max_blob None name at = tells_nothing None _ (nothing _ refl)
-tells_status max_blob (Some session) name at =
-    tells_if None _ _ _ (tells_nothing None _ (nothing _ refl)) (tells_nothing None _ (nothing _ refl))
+tells_status max_blob (Some session) name at = search (rules, arith, tells_if, tells_nothing, nothing)
 
 pub foreseen : (s : State) (ask : Ask) (secret : List ℕ) (now : ℕ)
     → Tells (change_of s ask secret) (outcome s ask secret now)
 foreseen s asks.Base secret now = tells_nothing None _ (nothing _ refl)
 foreseen s (asks.Has name digest head) secret now =
-    tells_if None _ _ _ (tells_blob None digest head _) (tells_nothing None _ (nothing _ refl))
+    search (rules, arith, tells_if, tells_blob, tells_nothing, nothing)
 foreseen s (asks.Opening name) secret now = tells_opening s name secret now
 foreseen s (asks.Single name digest body) secret now =
-    tells_unless _ _ _ (fault_if _ _ None refl no_fault) (tells_checked digest body _ (λ d. refl))
-foreseen s (asks.Mount name digest source) secret now =
-    tells_mount s name source secret digest now (holds s source digest)
+    search (rules, arith, tells_unless, fault_if, no_fault, tells_checked)
+foreseen s (asks.Mount name digest source) secret now = search (rules, arith, tells_mount)
 foreseen s (asks.Chunk name at range body) secret now = tells_chunk _ _ now (map.get s.sessions at) name at range body
 foreseen s (asks.Status name at) secret now = tells_status _ _ name at
-foreseen s (asks.Close name at range digest body) secret now =
-    tells_close _ _ now (map.get s.sessions at) name at range digest body
+foreseen s (asks.Close name at range digest body) secret now = search (rules, arith, tells_close)
 foreseen s (asks.Refused refusal) secret now = tells_nothing None _ (nothing _ refl)
 
 -- an answer that wasn't foreseen doesn't come
 pub never_comes : (s : State) (ask : Ask) (secret : List ℕ) (now : ℕ) (told : Told)
     → change_of s ask secret ≢ Some told → told_of (answer_of (outcome s ask secret now)) ≢ Some told
-never_comes s ask secret now told other comes =
-    elim (foreseen s ask secret now).tells [
-      | inl none ↦ absurd (cc (sym comes ∙ none))
-      | inr as_foreseen ↦ other (sym as_foreseen ∙ comes)
-    ]
+never_comes s ask secret now told other comes = search (rules, arith, foreseen)
 
 -- the answer is the one that the request comes to
 pub answer_is : (s : State) (ask : Ask) (secret : List ℕ) (now : ℕ) (answer : Answer) (t : State)
@@ -144,9 +127,4 @@ answer_is s ask secret now answer t (inr turn) some = absurd (some turn.1)
 pub tells_none : (s : State) (ask : Ask) (secret : List ℕ) (now : ℕ) (answer : Answer) (t : State) (told : Told)
     → Turn s ask secret now answer t → answer ≢ answers.NoMemory → change_of s ask secret ≡ Some told
     → told_of answer ≢ Some told → told_of answer ≡ None
-tells_none s ask secret now answer t told turn some will other =
-    let same = ap told_of (answer_is s ask secret now answer t turn some) in
-    elim (foreseen s ask secret now).tells [
-      | inl none ↦ same ∙ none
-      | inr as_foreseen ↦ absurd (other (same ∙ as_foreseen ∙ will))
-    ]
+tells_none s ask secret now answer t told turn some will other = search (rules, arith, answer_is, foreseen)

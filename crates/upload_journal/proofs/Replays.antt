@@ -1,5 +1,5 @@
 -- What a replay does is a run.
-use Rattle.std.proofs.Common.{◌≡◌, ℕ, zero, suc, ◌+◌, ◌<◌, ◌≤◌, List, [], ◌∷◌, ◌++◌, length, take, get_or}
+use Rattle.std.proofs.Common.{◌≡◌, ℕ, zero, suc, ◌+◌, ◌<◌, ◌≤◌, List, [], ◌∷◌, ◌++◌, length, take, get_or, rules}
 use Rattle.std.proofs.Common.{refl, sym, ap, subst, ◌∙◌, arith, append_assoc}
 use Rattle.std.specs.Prelude.{max}
 use Rattle.std.proofs.lemmas.List.{append-nil}
@@ -26,21 +26,14 @@ KeepsMore {B} keeps old new = (first : B) → keeps first old → keeps first ne
 pub joins_still : (old new : ℕ → List ℕ → Type 0) (files : List BodyFile) (bytes : List ℕ) → Keeps old new
     → Joins old files bytes → Joins new files bytes
 joins_still old new [] bytes keeps joins = joins
-joins_still old new (file ∷ files) bytes keeps joins = (
-  joins.0,
-  joins.1,
-  joins.2,
-  keeps file.number joins.0 joins.3,
-  joins.4,
-  joins_still old new files joins.1 keeps joins.5,
-)
+joins_still old new (file ∷ files) bytes keeps joins =
+    search (rules, arith, joins_still old new files joins.1 keeps joins.5)
 
 pub joins_next : (stands : ℕ → List ℕ → Type 0) (files : List BodyFile) (i : ℕ) (d : BodyFile) (bytes part : List ℕ)
     → i < length files → Joins stands (take i files) bytes → stands (get_or files i d).number part
     → length part ≡ (get_or files i d).len → Joins stands (take (i + 1) files) (bytes ++ part)
 joins_next stands [] i d bytes part lt joins is len = absurd (omega arith)
-joins_next stands (file ∷ files) zero d bytes part lt joins is len =
-    (part, [], ap (λ (b : List ℕ). b ++ part) joins ∙ sym (append-nil part), is, len, refl)
+joins_next stands (file ∷ files) zero d bytes part lt joins is len = search (rules, arith, append-nil)
 joins_next stands (file ∷ files) (suc i) d bytes part lt joins is len =
     let e : suc (i + 1) ≡ suc i + 1 = omega arith in
     let rest = joins_next stands files i d joins.1 part (omega arith) joins.5 is len in
@@ -75,18 +68,7 @@ record Core (stands : ℕ → List ℕ → Type 0) (old : Point) (entries : List
 
 core : (stands : ℕ → List ℕ → Type 0) (old : Point) (entries : List Entry) (new : Point) → UsesNoneUp entries
     → Replays stands old entries new → Core stands old entries new
-core stands old [] new none e =
-    let last : new.last ≡ old.last = ap (λ (p : Point). p.last) e in
-    let upto : new.upto ≡ old.upto = ap (λ (p : Point). p.upto) e in
-    record {
-      exchanges = [];
-      stand_for = refl;
-      run = ap (λ (p : Point). p.state) e;
-      never_before = tt;
-      never_after = tt;
-      last = omega arith;
-      upto = omega arith;
-    }
+core stands old [] new none e = search (rules, arith)
 core stands old (Kept entry ∷ entries) new none r =
     let x = r.1.0 in
     let done = r.1.2 in
@@ -137,14 +119,4 @@ is_run stands old entries new lawful none r =
     }
 
 pub lawful_used : (n : ℕ) (s : State) → IsLawful s → IsLawful (used_up n s)
-lawful_used n s lawful = record {
-  numbered = λ at session found.
-      let h = lawful.numbered at session found in
-      let low = h.0 in
-      let high = h.1 in (low, omega arith);
-  different = lawful.different;
-  few = lawful.few;
-  small = lawful.small;
-  own_digest = lawful.own_digest;
-  stored = lawful.stored;
-}
+lawful_used n s lawful = search (rules, arith)

@@ -1,17 +1,13 @@
 -- What changed nothing can be left out.
 use Rattle.std.proofs.Common.{◌≡◌, ℕ, ◌≤◌, Bool, true, false, List, [], ◌∷◌, ◌++◌, Option, Some, None, refl, sym, ap}
-use Rattle.std.proofs.Common.{subst, ◌∙◌, inl, inr, arith, cond}
-use Rattle.std.specs.Prelude.{is_some, ◌||◌, ◌==◌, ◌-◌, ◌+◌, nat_lt, not, length}
-use Rattle.upload_service.specs.declared.answer.Refusal.TheVariants as refusals
+use Rattle.std.proofs.Common.{subst, ◌∙◌, inl, inr, arith, cond, rules}
+use Rattle.std.specs.Prelude.{is_some}
 use Rattle.upload_service.specs.declared.ask.Ask.{Ask}
-use Rattle.upload_service.specs.declared.ask.Ask.TheVariants as asks
 use Rattle.upload_service.specs.declared.ask.Extent.{Extent}
-use Rattle.upload_service.specs.declared.ask.Extent.TheVariants.{Absent, Bad, Given}
 use Rattle.upload_service.specs.declared.answer.Answer.{Answer}
-use Rattle.upload_service.specs.declared.answer.Answer.TheVariants as answers
-use Rattle.upload_service.specs.Machine.{State, Outcome, Replies, Begins, Takes, Commits, Stores, Mounts, answer_of}
+use Rattle.upload_service.specs.Machine.{State, Outcome, Replies, answer_of}
 use Rattle.upload_service.specs.Machine.{state_after, outcome, Turn, unless_fault, body_fault, Progress, at_session}
-use Rattle.upload_service.specs.Machine.{in_session, blob_reply, Session, size_fault}
+use Rattle.upload_service.specs.Machine.{in_session, blob_reply, Session}
 use Rattle.upload_service.specs.UploadView.{Act}
 use Rattle.upload_names.specs.Digest.{Digest}
 use Rattle.upload_service.specs.Run.{Exchange, Run, NeverBefore}
@@ -24,19 +20,12 @@ use Rattle.upload_journal.specs.Restart.{changes, changes_of, NeverAfter, Change
 -- ---- one turn
 
 stays : (s : State) (now : ℕ) (o : Outcome) → told_of (answer_of o) ≡ None → state_after s now o ≡ s
-stays s now (Replies answer) e = refl
-stays s now (Begins name at) e = absurd cc
-stays s now (Takes name at received) e = absurd cc
-stays s now (Commits name at digest blob) e = absurd cc
-stays s now (Stores name digest blob) e = absurd cc
-stays s now (Mounts name digest) e = absurd cc
+stays s now o = search (rules, arith)
 
 pub turn_stays : (old : State) (ask : Ask) (secret : List ℕ) (now : ℕ) (answer : Answer) (new : State)
     → Turn old ask secret now answer new → told_of answer ≡ None → new ≡ old
 unfolding Turn
-turn_stays old ask secret now answer new (inl turn) none =
-    turn.1 ∙ stays old now (outcome old ask secret now) (ap told_of (sym turn.0) ∙ none)
-turn_stays old ask secret now answer new (inr turn) none = turn.2
+turn_stays old ask secret now answer new h = search (rules, arith, stays)
 
 some_or_none : (o : Option Told) → is_some o ≡ false → o ≡ None
 some_or_none None e = refl
@@ -49,10 +38,7 @@ pub turn_leads : (old : State) (ask : Ask) (secret : List ℕ) (now : ℕ) (answ
     → Turn old ask secret now answer new → Turn old ask secret now answer other → is_some (told_of answer) ≡ true
     → other ≡ new
 unfolding Turn
-turn_leads old ask secret now answer new other (inl turn) (inl again) some = again.1 ∙ sym turn.1
-turn_leads old ask secret now answer new other (inr turn) again some = absurd (told_is _ (ap told_of turn.1) some)
-turn_leads old ask secret now answer new other (inl turn) (inr again) some =
-    absurd (told_is _ (ap told_of again.1) some)
+turn_leads old ask secret now answer new other h = search (rules, arith, told_is)
 
 -- ---- runs
 
@@ -72,15 +58,7 @@ leads_to : (old : State) (xs : List Exchange) (new other : State) → Run old xs
     → other ≡ new
 leads_to old [] new other run again = again ∙ sym run
 leads_to old (x ∷ xs) new other run again =
-    both_ways (changes x) (λ some.
-    let kept : Run old (x ∷ changes_of xs) other =
-    subst (λ b. Run old (cond b (x ∷ changes_of xs) (changes_of xs)) other) some again in
-    let same = turn_leads old x.ask x.secret x.now x.answer run.0 kept.0 run.1 kept.1 some in
-    leads_to run.0 xs new other run.2 (subst (λ s. Run s (changes_of xs) other) same kept.2)) (λ none.
-    let rest : Run old (changes_of xs) other =
-    subst (λ b. Run old (cond b (x ∷ changes_of xs) (changes_of xs)) other) none again in
-    let same = turn_stays old x.ask x.secret x.now x.answer run.0 run.1 (some_or_none _ none) in
-    leads_to run.0 xs new other run.2 (subst (λ s. Run s (changes_of xs) other) (sym same) rest))
+    search (rules, arith, both_ways, turn_leads, turn_stays, some_or_none, leads_to run.0 xs new other run.2)
 
 pub run_on : (old : State) (xs : List Exchange) (mid : State) (ys : List Exchange) (new : State) → Run old xs mid
     → Run mid ys new → Run old (xs ++ ys) new
@@ -95,10 +73,7 @@ earlier first then' (x ∷ xs) le h = let later = h.0 in (omega arith, h.1)
 
 keep_moments : (moment : ℕ) (xs : List Exchange) → NeverBefore moment xs → NeverBefore moment (changes_of xs)
 keep_moments moment [] h = tt
-keep_moments moment (x ∷ xs) h =
-    let rest = keep_moments x.now xs h.1 in
-    both_ways (changes x) (λ some. rw some (h.0, rest))
-    (λ none. rw none (earlier moment x.now (changes_of xs) h.0 rest))
+keep_moments moment (x ∷ xs) h = search (rules, arith, both_ways, earlier, keep_moments x.now xs h.1)
 
 go_on : (first moment : ℕ) (xs ys : List Exchange) → first ≤ moment → NeverBefore first xs → NeverAfter moment xs
     → NeverBefore moment ys → NeverBefore first (xs ++ ys)
@@ -127,10 +102,7 @@ no_fault = record { none = λ answer e. absurd cc }
 
 pub fault_if : (b : Bool) (answer : Answer) (f : Option Answer) → told_of answer ≡ None → IsSilentFault f
     → IsSilentFault (cond b (Some answer) f)
-fault_if true answer f h k = record {
-  none = λ other e.
-      let same : answer ≡ other = cc in subst (λ (o : Answer). told_of o ≡ None) same h;
-}
+fault_if true answer f h k = search (rules, arith)
 fault_if false answer f h k = k
 
 silent_unless : (f : Option Answer) (o : Outcome) → IsSilentFault f → IsSilent o → IsSilent (unless_fault f o)
@@ -139,14 +111,7 @@ silent_unless (Some answer) o h k = nothing answer (h.none answer refl)
 
 pub silent_body : (max_blob : ℕ) (upload : Progress) (range : Extent) (body : List ℕ)
     → IsSilentFault (body_fault max_blob upload range body)
-silent_body max_blob upload Absent body = fault_if _ _ None refl no_fault
-silent_body max_blob upload Bad body = fault_if true _ None refl no_fault
-silent_body max_blob upload (Given range) body =
-    let long = nat_lt range.last range.first || not (range.last - range.first + 1 == length body) in
-    fault_if (not (range.first == upload.next)) (answers.Misplaced upload.name upload.at upload.next)
-    (cond long (Some (answers.Refused refusals.WrongLength)) (size_fault max_blob upload.next body)) refl
-    (fault_if long (answers.Refused refusals.WrongLength) (size_fault max_blob upload.next body) refl
-    (fault_if (nat_lt max_blob (upload.next + length body)) (answers.Refused refusals.TooLarge) None refl no_fault))
+silent_body max_blob upload range body = search (rules, arith, fault_if, no_fault)
 
 silent_session : (max_blob : ℕ) (session : Option Session) (name at : List ℕ) (act : Act)
     → ((s : Session) → IsSilent (in_session max_blob s name at act))
@@ -160,24 +125,8 @@ silent_blob digest head (Some blob) = nothing _ refl
 
 silent : (s : State) (ask : Ask) (files : List BodyFile) (secret : List ℕ) (now : ℕ) → kept_of ask files ≡ None
     → IsSilent (outcome s ask secret now)
-silent s asks.Base files secret now e = nothing _ refl
-silent s (asks.Has name digest head) files secret now e = silent_if _ _ _ (silent_blob digest head _) (nothing _ refl)
-silent s (asks.Opening name) files secret now e = absurd cc
-silent s (asks.Single name None body) files secret now e =
-    silent_unless _ _ (fault_if _ _ None refl no_fault) (nothing _ refl)
-silent s (asks.Single name (Some digest) body) files secret now e = absurd cc
-silent s (asks.Mount name digest source) files secret now e = absurd cc
-silent s (asks.Chunk name at Absent body) files secret now e = absurd cc
-silent s (asks.Chunk name at Bad body) files secret now e = silent_session _ _ name at _ (λ session. nothing _ refl)
-silent s (asks.Chunk name at (Given range) body) files secret now e = absurd cc
-silent s (asks.Status name at) files secret now e = silent_session _ _ name at _ (λ session. nothing _ refl)
-silent s (asks.Close name at range None body) files secret now e =
-    silent_session _ _ name at _ (λ session. silent_unless _ _ (silent_body _ _ range body) (nothing _ refl))
-silent s (asks.Close name at Absent (Some digest) body) files secret now e = absurd cc
-silent s (asks.Close name at Bad (Some digest) body) files secret now e =
-    silent_session _ _ name at _ (λ session. nothing _ refl)
-silent s (asks.Close name at (Given range) (Some digest) body) files secret now e = absurd cc
-silent s (asks.Refused refusal) files secret now e = nothing _ refl
+silent s ask files secret now h =
+    grind (arith, nothing, silent_if, silent_blob, silent_unless, fault_if, no_fault, silent_session, silent_body)
 
 unkept : (old : State) (ask : Ask) (files : List BodyFile) (secret : List ℕ) (now : ℕ) (answer : Answer)
     (new : State) → kept_of ask files ≡ None → Turn old ask secret now answer new → told_of answer ≡ None

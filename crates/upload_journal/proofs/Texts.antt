@@ -1,5 +1,5 @@
 -- Entries are read exactly.
-use Rattle.std.proofs.Common.{◌≡◌, ℕ, ◌^◌, ◌<◌, false, cond, eqb, List, [], ◌∷◌, ◌++◌, length, Option}
+use Rattle.std.proofs.Common.{◌≡◌, ℕ, ◌^◌, ◌<◌, false, cond, eqb, List, [], ◌∷◌, ◌++◌, length, Option, arith, rules}
 use Rattle.std.proofs.Common.{Result, Ok, Err, refl, sym, ap, subst, ◌∙◌, append_assoc, inl, inr}
 use Rattle.std.specs.Prelude.{IsTrue, IfOk}
 use Rattle.std.specs.Int.{w32, w64, to_be_bytes}
@@ -10,7 +10,6 @@ use Rattle.upload_names.specs.Digest.{Digest, IsDigest, digest_text}
 use Rattle.upload_names.specs.Reference.{reference_text}
 use Rattle.upload_names.specs.ByteRange.{Span}
 use Rattle.upload_journal.specs.declared.body.KeptBody.{KeptBody}
-use Rattle.upload_journal.specs.declared.fault.EntryFault.{EntryFault}
 use Rattle.upload_journal.specs.declared.fault.EntryFault.TheVariants.{UnknownKind, Trailing}
 use Rattle.upload_journal.specs.declared.entries.KeptAsk.{KeptAsk}
 use Rattle.upload_journal.specs.declared.entries.KeptAsk.TheVariants.{Opening, Single, Mount, Chunk, Close}
@@ -207,9 +206,7 @@ as_fields [] = refl
 as_fields (kind ∷ bytes) = refl
 
 same_text : (p : KeptAsk × (List ℕ × (ℕ × Told))) → exchange_text (exchange_from p) ≡ fields_text p
-same_text p =
-    append_assoc (ask_text p.0) (p.1.0 ++ to_be_bytes w64 p.1.1.0) (told_text p.1.1.1)
-    ∙ ap (λ (x : List ℕ). ask_text p.0 ++ x) (append_assoc p.1.0 (to_be_bytes w64 p.1.1.0) (told_text p.1.1.1))
+same_text p = simp append_assoc
 
 exchanges_exact : IsExact exchanges_at exchange_text IsKeptExchange
 exchanges_exact = record {
@@ -270,30 +267,18 @@ no_moments bytes x rest e = absurd cc
 other_kind : (kind : ℕ) (bytes : List ℕ) (x : KeptExchange) (rest : List ℕ) → exchange_at kind bytes ≡ Ok (x, rest)
     → (eqb kind 6 ≡ false) × (eqb kind 7 ≡ false)
 unfolding exchange_at ask_at
-other_kind kind bytes x rest e =
-    let at = λ (k : ℕ). exchange_at k bytes ≡ Ok (x, rest) in (
-      elim (cases_Bool (eqb kind 6)) [
-        | inl is ↦ absurd (no_numbers bytes x rest (subst at (eqb-true _ _ is) e))
-        | inr differs ↦ differs
-      ],
-      elim (cases_Bool (eqb kind 7)) [
-        | inl is ↦ absurd (no_moments bytes x rest (subst at (eqb-true _ _ is) e))
-        | inr differs ↦ differs
-      ],
-    )
+other_kind kind bytes x rest e = search (rules, arith, cases_Bool, no_numbers, eqb-true, no_moments)
 
 exchange_again : (bytes : List ℕ) (x : KeptExchange) (rest : List ℕ) → exchanges_at bytes ≡ Ok (x, rest)
     → entry_at bytes ≡ Ok (Exchange x, rest)
 unfolding exchanges_at entry_at
 exchange_again [] x rest e = absurd cc
-exchange_again (kind ∷ bytes) x rest e =
-    let other = other_kind kind bytes x rest e in
-    rw (other.0, other.1, e) refl
+exchange_again (kind ∷ bytes) x rest e = search (rules, arith, other_kind)
 
 entry_again : (entry : Entry) (rest : List ℕ) → IsEntry entry → entry_at (plain_text entry ++ rest) ≡ Ok (entry, rest)
 unfolding entry_at
 entry_again (Exchange x) rest lawful =
-    exchange_again (exchange_text x ++ rest) x rest (exchanges_exact.again x rest lawful)
+    cc (exchange_again (exchange_text x ++ rest) x rest (exchanges_exact.again x rest lawful))
 entry_again (NumbersUpTo n) rest lawful = made_again NumbersUpTo (number_at w32) _ _ number32 n rest lawful
 entry_again (MomentsUpTo m) rest lawful = made_again MomentsUpTo (number_at w64) _ _ number64 m rest lawful
 
@@ -328,8 +313,7 @@ entry_found bytes entry fits e =
     (plain.0, found.0 ∙ ap with_checksum plain.1)
 
 pub entry_read : (entry : Entry) → IsEntry entry → entry_of (entry_text entry) ≡ Ok entry
-entry_read entry lawful =
-    ap (λ (r : Result (List ℕ) EntryFault). r >>= plain_of) (checked_again (plain_text entry)) ∙ plain_read entry lawful
+entry_read entry lawful = simp (checked_again, plain_read)
 
 pub is_found : (bytes : List ℕ) (r : Result Entry ReadError) → IsBytes bytes → Gives (λ x. x) r (entry_of bytes)
     → IfOk r (λ entry. IsEntry entry × (bytes ≡ entry_text entry))

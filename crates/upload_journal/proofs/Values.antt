@@ -2,10 +2,10 @@
 use Rattle.std.proofs.Common.{◌≡◌, ◌≢◌, ℕ, zero, suc, ◌^◌, ◌<◌, ◌≤◌, Bool, true, false, cond, eqb, List, [], ◌∷◌}
 use Rattle.std.proofs.Common.{◌++◌, length, Option, Some, None, Ok, Err, refl, sym, ap, subst, ◌∙◌, append_assoc}
 use Rattle.std.proofs.Common.{arith, rules, inl, inr, ◌⊎◌, length-append, lit≤}
-use Rattle.std.specs.Prelude.{IsTrue, IfSome, nat_eq, nat_le, ◌&&◌}
+use Rattle.std.specs.Prelude.{IsTrue, IfSome, nat_eq}
 use Rattle.std.specs.Int.{w32, w64, to_be_bytes}
 use Rattle.std.specs.List.{flat_map, AllByRecursion}
-use Rattle.std.specs.Cmp.Lexicographic.{pointwise, same_text}
+use Rattle.std.specs.Cmp.Lexicographic.{pointwise}
 use Rattle.std.proofs.lemmas.Bool.{eqb-true, eqb-false, ne_eqb, leb-true, le-leb}
 use Rattle.std.proofs.lemmas.List.Concat.{flat_map-cons}
 use Rattle.hex.specs.Hex.{encode_lower, lower_digits}
@@ -14,8 +14,8 @@ use Rattle.upload_names.specs.declared.digest.Algorithm.{Algorithm}
 use Rattle.upload_names.specs.declared.digest.Algorithm.TheVariants.{Sha256, Sha512}
 use Rattle.upload_names.specs.NamePass.{is_name}
 use Rattle.upload_names.specs.Digest.{Digest, IsDigest, digest_text, digest_of, prefix_of, hash_size}
-use Rattle.upload_names.specs.Reference.{reference_text, reference_of}
-use Rattle.upload_names.specs.ByteRange.{Span, IsSpan, range_cap}
+use Rattle.upload_names.specs.Reference.{reference_text}
+use Rattle.upload_names.specs.ByteRange.{Span, IsSpan}
 use Rattle.upload_names.proofs.NameFacts.{IsName-from}
 use Rattle.upload_names.proofs.DigestFacts.{digest_of-spells, digest_of-text}
 use Rattle.upload_names.proofs.ReferenceTexts.{length-reference_text}
@@ -73,7 +73,6 @@ short_digest digest d =
       length-append (prefix_of digest.algorithm) (encode_lower digest.bytes),
       short_prefix digest.algorithm,
       short_hash digest.algorithm,
-      d.sized,
       length-encode_with lower_digits digest.bytes,
     )
 
@@ -96,18 +95,10 @@ same_refl x = search (rules, arith)
 written_is : (text : List ℕ) (o : Option (List ℕ)) (at : List ℕ) → if_written text o ≡ Some at
     → (o ≡ Some at) × (reference_text at ≡ text)
 written_is text None at e = absurd cc
-written_is text (Some own) at e =
-    let p = if_some (pointwise nat_eq (reference_text own) text) own at e in
-    (ap Some p.1, ap reference_text (sym p.1) ∙ same_text _ _ (sym p.0))
+written_is text (Some own) at e = search (rules, arith, if_some)
 
 references_pass : Passes reference_in reference_text IsMeasured IsReference
-references_pass = record {
-  passed = λ x at short e.
-      let p = written_is x (reference_of x) at e in
-      (sym p.1, ap reference_of p.1 ∙ p.0);
-  spelled = λ at lawful.
-      (rw (lawful, same_refl (reference_text at)) refl, omega (arith, length-reference_text at));
-}
+references_pass = search (rules, arith, written_is, same_refl, length-reference_text)
 
 pub reference_exact : IsExact reference_at (λ at. measured (reference_text at)) IsReference
 unfolding reference_at
@@ -125,9 +116,7 @@ chosen false x y z e = inr (refl, e)
 -- the mark before what was read
 pub byte_ok : (bytes : List ℕ) (mark : ℕ) (rest : List ℕ) → byte_at bytes ≡ Ok (mark, rest) → bytes ≡ mark ∷ rest
 byte_ok [] mark rest e = absurd cc
-byte_ok (b ∷ bytes) mark rest e =
-    let is = ok_is (b, bytes) (mark, rest) e in
-    ap (λ (p : ℕ × List ℕ). p.0 ∷ p.1) is
+byte_ok (b ∷ bytes) mark rest e = search (rules, arith, ok_is)
 
 pub behind : (bytes : List ℕ) (mark : ℕ) (rest : List ℕ) → bytes ≡ mark ∷ rest → IsBytes bytes → IsBytes rest
 behind bytes mark rest e fits i = subst (λ (b : List ℕ). IsBytes b) e fits (suc i)
@@ -150,15 +139,7 @@ marked make r t V text Lawful mark f spelled lawful bytes rest after y fits is e
 -- ---- ranges
 
 spans_pass : Passes span_in (λ (s : Span). (s.first, s.last)) (λ p. (p.0 < 2 ^ 64) × (p.1 < 2 ^ 64)) IsSpan
-spans_pass = record {
-  passed = λ x y fits e.
-      let p = if_some (nat_le x.0 range_cap && nat_le x.1 range_cap) (record { first = x.0; last = x.1 }) y e in
-      subst (λ (s : Span). (x ≡ (s.first, s.last)) × IsSpan s) p.1 (refl, search (rules, arith, p.0));
-  spelled = λ y lawful.
-      let first = lawful.0 in
-      let last = lawful.1 in
-      (rw (le-leb y.first range_cap first, le-leb y.last range_cap last) refl, (omega arith, omega arith));
-}
+spans_pass = search (rules, arith, if_some, le-leb)
 
 pub span_exact : IsExact span_at (λ (s : Span). to_be_bytes w64 s.first ++ to_be_bytes w64 s.last) IsSpan
 unfolding span_at
@@ -221,9 +202,7 @@ AreFiles n files = (length files ≡ n) × AllByRecursion IsFile files
 files_take : (n : ℕ) (bytes : List ℕ) (files : List BodyFile) (rest : List ℕ) → IsBytes bytes
     → files_of n bytes ≡ Ok (files, rest) → Took (flat_map file_text) (AreFiles n) bytes files rest
 unfolding files_of
-files_take zero bytes files rest fits e =
-    subst (λ (q : List BodyFile × List ℕ). Took (flat_map file_text) (AreFiles 0) bytes q.0 q.1)
-    (ok_is ([], bytes) (files, rest) e) (refl, (refl, tt), fits)
+files_take zero bytes files rest fits e = search (rules, arith, ok_is)
 files_take (suc n) bytes files rest fits e =
     let a = bind_ok (file_at bytes) (λ first. files_of n first.1 >>= λ others. Ok (first.0 ∷ others.0, others.1))
     (files, rest) e in
@@ -286,12 +265,7 @@ abbrev IsShort : List ℕ → Type 0
 IsShort text = length text ≤ most_here
 
 shorts_pass : Passes short_in (λ (t : List ℕ). t) IsMeasured IsShort
-shorts_pass = record {
-  passed = λ x y measured e.
-      let p = if_some (nat_le (length x) most_here) x y e in
-      (p.1, subst IsShort p.1 (leb-true _ _ p.0));
-  spelled = λ y lawful. (rw (le-leb (length y) most_here lawful) refl, omega arith);
-}
+shorts_pass = search (rules, arith, if_some, leb-true, le-leb)
 
 here_exact : IsExact here_at measured IsShort
 unfolding here_at
@@ -361,9 +335,7 @@ told_takes bytes told after fits e =
 
 told_again : (told : Told) (rest : List ℕ) → IsTold told → told_at (told_text told ++ rest) ≡ Ok (told, rest)
 unfolding told_at
-told_again (Begun at) rest lawful = made_again Begun reference_at _ IsReference reference_exact at rest lawful
-told_again (Taken next) rest lawful = made_again Taken (number_at w64) _ _ number64 next rest lawful
-told_again (Stored digest) rest lawful = made_again Stored digest_at _ IsDigest digest_exact digest rest lawful
+told_again told rest = search (rules, arith, made_again, reference_exact, number64, digest_exact)
 
 pub told_exact : IsExact told_at told_text IsTold
 told_exact = record { takes = told_takes; again = told_again }

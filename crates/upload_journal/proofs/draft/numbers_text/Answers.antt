@@ -1,9 +1,6 @@
-use Rattle.std.proofs.Common.{◌∷◌, ◌++◌, List, ℕ, ap}
-use Rattle.std.specs.Int.{w32, to_be_bytes}
+use Rattle.std.proofs.Common.{arith, rules}
 use Rattle.upload_journal.proofs.Checksums.{eight}
 use Rattle.upload_journal.proofs.draft.numbers_text.Goals as goal
 
 pub returns : goal.returns
-returns c =
-    let plain : List ℕ = 6 ∷ to_be_bytes w32 c.args.number in
-    rw (c.checksum.ensures, c.to_be_bytes.ensures) (ap (λ (sum : List ℕ). plain ++ sum) (eight plain))
+returns c = search (rules, arith, eight)

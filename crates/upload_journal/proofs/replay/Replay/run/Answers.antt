@@ -1,8 +1,7 @@
-use Rattle.std.proofs.Common.{◌≡◌, ◌≤◌, Bool, true, false, sym, refl, ap, subst, ◌∙◌}
+use Rattle.std.proofs.Common.{◌≡◌, Bool, true, false, sym, refl, ap, subst, ◌∙◌, arith, rules}
 use Rattle.upload_journal.specs.Stops.{AnswersOtherwise}
 use Rattle.upload_service.specs.Machine.{State}
 use Rattle.upload_service.specs.Run.{Exchange}
-use Rattle.upload_journal.specs.Short.{told_of}
 use Rattle.upload_journal.specs.Replay.{Exchanged, Point}
 use Rattle.upload_journal.proofs.Failing.{files_fail}
 use Rattle.upload_journal.proofs.Restart.{turn_stays}
@@ -26,11 +25,7 @@ returns-in-Same-clause-ok g c =
     )
 
 pub returns-in-NoMemory-clause-err : goal.returns-in-NoMemory-clause-err
-returns-in-NoMemory-clause-err g c =
-    let none = ap told_of (c.in-NoMemory.ensures.no_memory refl) in
-    let same = turn_stays c.self.inside.service c.in-Ok.ask c.args.exchange.secret c.args.exchange.now c.serve.result
-    c.serve.new.service c.serve.ensures.turn none in
-    ap (λ (s : State). record { state = s; last = c.self.inside.last; upto = c.self.inside.upto }) same ∙ c.self.view_is
+returns-in-NoMemory-clause-err g c = search (rules, arith, turn_stays)
 
 apart : (b : Bool) → b ≡ true → b ≡ false → ⊥
 apart b e n = absurd (cc (sym e ∙ n))
@@ -46,21 +41,7 @@ returns-in-Other-clause-err g c =
     ap (λ (s : State). record { state = s; last = c.self.inside.last; upto = c.self.inside.upto }) same ∙ c.self.view_is
 
 pub returns-in-Other-clause-cause : goal.returns-in-Other-clause-cause
-returns-in-Other-clause-cause g c first kept =
-    let stands = g.B.Bodies.stands c.ask_of.new.bodies in
-    let other = c.in-Other.ensures.other refl in
-    let is = answer_is c.self.inside.service c.in-Ok.ask c.args.exchange.secret c.args.exchange.now c.serve.result
-    c.serve.new.service c.serve.ensures.turn other.1 in
-    let it : Point =
-    record { state = c.self.inside.service; last = c.self.inside.last; upto = c.self.inside.upto } in
-    let otherwise : AnswersOtherwise stands (g.B.Bodies.refused first c.ask_of.new.bodies) it c.args.exchange = record {
-      ask = c.in-Ok.ask;
-      asked = c.in-Ok.ensures.asked;
-      other = λ told. other.0 (ap told_of is ∙ told);
-      later = c.if-now-self.false;
-    } in
-    subst (λ p. AnswersOtherwise stands (g.B.Bodies.refused first c.ask_of.new.bodies) p c.args.exchange) c.self.view_is
-    otherwise
+returns-in-Other-clause-cause g c first kept = search (rules, arith, answer_is)
 
 pub returns-then-not-may_come-clause-cause : goal.returns-then-not-may_come-clause-cause
 returns-then-not-may_come-clause-cause g c first kept =
@@ -79,7 +60,4 @@ returns-then-not-may_come-clause-cause g c first kept =
     otherwise
 
 pub returns-in-Err-clause-cause : goal.returns-in-Err-clause-cause
-returns-in-Err-clause-cause g c first kept =
-    files_fail _ _ c.args.self.now c.args.exchange
-    (subst (λ (p : Point). p.last ≤ c.args.exchange.now) c.self.view_is c.if-now-self.false) c.in-Err.fault
-    (c.in-Err.ensures.cause first kept)
+returns-in-Err-clause-cause g c first kept = search (rules, arith, files_fail)
