@@ -1,39 +1,30 @@
 -- The number of requests falls.
-use Rattle.std.proofs.Common.{◌≡◌, ℕ, zero, suc, ◌+◌, ◌-◌, ◌*◌, ◌/◌, ◌<◌, ◌≤◌, min, true, false, ◌==◌, nat_lt, nat_le}
-use Rattle.std.proofs.Common.{List, [], ◌∷◌, length, Option, Some, None, refl, arith, ap, subst, sym}
+use Rattle.std.proofs.Common.{◌≡◌, ℕ, zero, suc, ◌+◌, ◌-◌, ◌*◌, ◌<◌, ◌≤◌, min, true, false, nat_lt, nat_le}
+use Rattle.std.proofs.Common.{List, [], ◌∷◌, length, Option, Some, None, refl, arith, rules}
 use Rattle.std.proofs.Math.Nat.{div-mul-le_self}
 use Rattle.std.proofs.lemmas.Nat.{le-div, div_below}
 use Rattle.std.proofs.lemmas.Bool.{eqb-false, ltb-true, leb-true, leb-false}
 use Rattle.upload_push.proofs.Cases.{cond_case}
 use Rattle.upload_push.specs.Steps.{Plan, Stand, IsLawfulPlan, IsWithin, turn, phase_answered, unheard, retry}
 use Rattle.upload_push.specs.Steps.{send_from}
-use Rattle.upload_push.specs.Steps.{opened, chunk_confirmed, place_of, chunk_end, count_to, ask_at}
+use Rattle.upload_push.specs.Steps.{opened, chunk_confirmed, chunk_end, ask_at}
 use Rattle.upload_push.specs.Slices.{Push, IsLawfulPush, chunks, most_asks, after_all, log_of, logged, plan_of}
 use Rattle.upload_push.specs.Slices.{Attempt}
 use Rattle.upload_push.proofs.AsksLeft.{most_in_try, left_in_try, asks_left}
 use Rattle.upload_client.specs.declared.heard.Heard.{Heard}
 use Rattle.upload_push.specs.declared.pusher.PushAsk.{PushAsk}
 use Rattle.upload_push.specs.declared.pusher.Phase.{Phase}
-use Rattle.upload_push.specs.declared.pusher.Phase.TheVariants.{Opening, Sending, Asking, Looking, Done, GaveUp}
 
 -- more bytes make as many chunks or more
 pub chunks_mono : (a b c : ℕ) → 1 ≤ c → a ≤ b → chunks a c ≤ chunks b c
-chunks_mono a b c pos le =
-    let q = div-mul-le_self (a + (c - 1)) c in
-    let most : (a + (c - 1)) / c * c ≤ b + (c - 1) = omega (arith, q) in
-    le-div ((a + (c - 1)) / c) (b + (c - 1)) c (omega arith) most
+chunks_mono a b c pos le = search (rules, arith, div-mul-le_self, le-div)
 
 -- a chunk taken off is one fewer
 pub chunks_fewer : (rest next c : ℕ) → 1 ≤ c → next + c ≡ rest → chunks next c + 1 ≤ chunks rest c
-chunks_fewer rest next c pos e =
-    let q = div-mul-le_self (next + (c - 1)) c in
-    let most : ((next + (c - 1)) / c + 1) * c ≤ rest + (c - 1) = grind (arith, q) in
-    le-div ((next + (c - 1)) / c + 1) (rest + (c - 1)) c (omega arith) most
+chunks_fewer rest next c pos e = search (rules, arith, div-mul-le_self, le-div)
 
 pub chunks_none : (c : ℕ) → 1 ≤ c → chunks 0 c ≡ 0
-chunks_none c pos =
-    let below : (0 + (c - 1)) / c < 1 = div_below (0 + (c - 1)) c 1 (omega arith) (omega arith) in
-    omega arith
+chunks_none c pos = omega (arith, div_below (0 + (c - 1)) c 1 (omega arith) (omega arith))
 
 pub chunks_some : (rest c : ℕ) → 1 ≤ c → 1 ≤ rest → 1 ≤ chunks rest c
 chunks_some rest c pos some = le-div 1 (rest + (c - 1)) c (omega arith) (omega arith)
@@ -63,10 +54,7 @@ mul_pred (suc t) k some = grind arith
 -- a try that is taken leaves room for this phase
 pub retry_left : (p : Plan) (s : Stand) (phase : Phase) → left_in_try p phase ≤ most_in_try p
     → asks_left p (retry s phase) ≤ s.tries * most_in_try p
-retry_left p s phase room =
-    cond_case (λ t. asks_left p t ≤ s.tries * most_in_try p) (s.tries == 0) _ _
-    (λ none. omega arith)
-    (λ some. let more = mul_pred s.tries (most_in_try p) (eqb-false s.tries 0 some) in omega (arith, more, room))
+retry_left p s phase room = search (rules, arith, cond_case, asks_left, most_in_try, mul_pred, eqb-false)
 
 pub lawful_plan : (p : Push) → IsLawfulPush p → IsLawfulPlan (plan_of p)
 lawful_plan p lawful = record { size = lawful.size; chunk_least = lawful.chunk_least; chunk_most = lawful.chunk_most }
@@ -86,98 +74,42 @@ Falls p s phase next = asks_left p next + asked (ask_at p phase) ≤ s.tries * m
 pub unheard_falls : (p : Plan) (s : Stand) (phase : Phase) → s.phase ≡ phase → IsLawfulPlan p → IsWithin p.size phase
     → Falls p s phase (unheard s phase)
 unfolding Falls
-unheard_falls p s Opening is lawful within =
-    let left = retry_left p s Opening (omega arith) in
-    let one = asked_once (ask_at p Opening) in omega (arith, left, one)
-unheard_falls p s (Sending at offset) is lawful within =
-    let left = retry_left p s (Asking at) (omega arith) in
-    let one = asked_once (ask_at p (Sending at offset)) in omega (arith, left, one)
-unheard_falls p s (Asking at) is lawful within =
-    let left = retry_left p s (Asking at) (omega arith) in
-    let one = asked_once (ask_at p (Asking at)) in omega (arith, left, one)
-unheard_falls p s Looking is lawful within =
-    let left = retry_left p s Looking (omega arith) in
-    let one = asked_once (ask_at p Looking) in omega (arith, left, one)
-unheard_falls p s (Done outcome) is lawful within =
-    let same = ap (left_in_try p) is in omega (arith, same)
-unheard_falls p s (GaveUp why) is lawful within =
-    let same = ap (left_in_try p) is in omega (arith, same)
+unheard_falls p s phase h1 h2 h3 = search (rules, arith, retry_left, asked_once, left_in_try)
 
 -- what is left if the server names an offset
 pub send_from_left : (p : Plan) (at : List ℕ) (offset : ℕ) → IsLawfulPlan p
     → left_in_try p (send_from p at offset) ≤ chunks p.size p.chunk + 1
-send_from_left p at offset lawful =
-    cond_case (λ phase. left_in_try p phase ≤ chunks p.size p.chunk + 1) (nat_le offset p.size) _ _
-    (λ le. let fewer = chunks_mono (p.size - offset) p.size p.chunk lawful.chunk_least (omega arith) in
-    omega (arith, fewer))
-    (λ gt. omega arith)
+send_from_left p at offset lawful = grind (arith, cond_case, left_in_try, nat_le, chunks_mono)
 
 pub opened_left : (p : Plan) (place : Option (List ℕ)) → IsLawfulPlan p
     → left_in_try p (opened place) ≤ chunks p.size p.chunk + 1
-opened_left p (Some at) lawful =
-    let same = chunks_mono (p.size - 0) p.size p.chunk lawful.chunk_least (omega arith) in omega (arith, same)
-opened_left p None lawful = omega arith
+opened_left p place = search (rules, arith, chunks_mono)
 
 pub taken_left : (p : Plan) (offset : ℕ) (place : Option (List ℕ)) (upto : Option ℕ) → IsLawfulPlan p → offset < p.size
     → left_in_try p (chunk_confirmed (chunk_end p offset) place upto) ≤ chunks (p.size - offset) p.chunk
-taken_left p offset (Some at) (Some last) lawful lt =
-    let fewer = chunks_next p.size offset p.chunk lawful.chunk_least lt in
-    cond_case (λ phase. left_in_try p phase ≤ chunks (p.size - offset) p.chunk) (last + 1 == chunk_end p offset) _ _
-    (λ is. omega (arith, fewer))
-    (λ is. omega arith)
-taken_left p offset None upto lawful lt = omega arith
-taken_left p offset (Some at) None lawful lt = omega arith
+taken_left p offset place upto = search (rules, arith, chunks_next, cond_case, left_in_try)
 
 pub answered_falls : (p : Plan) (s : Stand) (phase : Phase) (h : Heard) → s.phase ≡ phase → IsLawfulPlan p
     → IsWithin p.size phase → Falls p s phase (phase_answered p s phase h)
 unfolding Falls
-answered_falls p s Opening h is lawful within =
-    let left = opened_left p (place_of p.name h) lawful in
-    let one = asked_once (ask_at p Opening) in
-    cond_case (λ next. Falls p s Opening next) (h.status == 202) _ _
-    (λ is. omega (arith, left, one))
-    (λ is. omega (arith, one))
-answered_falls p s (Sending at offset) h is lawful within =
-    let one = asked_once (ask_at p (Sending at offset)) in
-    cond_case (λ next. Falls p s (Sending at offset) next) (nat_lt offset p.size) _ _
-    (λ lt.
-    let less : offset < p.size = ltb-true offset p.size lt in
-    let left = taken_left p offset (place_of p.name h) h.upto lawful less in
-    cond_case (λ next. Falls p s (Sending at offset) next) (h.status == 202) _ _
-    (λ is. omega (arith, left, one))
-    (λ not. cond_case (λ next. Falls p s (Sending at offset) next) (h.status == 416) _ _
-    (λ is.
-    let from = send_from_left p at (count_to h.upto) lawful in
-    let tried = retry_left p s (send_from p at (count_to h.upto)) (omega (arith, from)) in
-    omega (arith, tried, one))
-    (λ not. omega (arith, one))))
-    (λ ge. cond_case (λ next. Falls p s (Sending at offset) next) (h.status == 201) _ _
-    (λ is. omega (arith, one))
-    (λ not. omega (arith, one)))
-answered_falls p s (Asking at) h is lawful within =
-    let one = asked_once (ask_at p (Asking at)) in
-    cond_case (λ next. Falls p s (Asking at) next) (h.status == 204) _ _
-    (λ is. let from = send_from_left p at (count_to h.upto) lawful in omega (arith, from, one))
-    (λ not. cond_case (λ next. Falls p s (Asking at) next) (h.status == 404) _ _
-    (λ is. omega (arith, one))
-    (λ not. omega (arith, one)))
-answered_falls p s Looking h is lawful within =
-    let one = asked_once (ask_at p Looking) in
-    cond_case (λ next. Falls p s Looking next) (h.status == 200) _ _
-    (λ is. omega (arith, one))
-    (λ not. omega (arith, one))
-answered_falls p s (Done outcome) h is lawful within =
-    let same = ap (left_in_try p) is in omega (arith, same)
-answered_falls p s (GaveUp why) h is lawful within =
-    let same = ap (left_in_try p) is in omega (arith, same)
+answered_falls p s phase h1 h2 h3 h4 =
+    grind (
+      arith,
+      opened_left,
+      asked_once,
+      cond_case,
+      nat_lt,
+      ltb-true,
+      taken_left,
+      send_from_left,
+      retry_left,
+      left_in_try,
+    )
 
 pub turn_falls : (p : Plan) (s : Stand) (heard : Option Heard) → IsLawfulPlan p → IsWithin p.size s.phase
     → Falls p s s.phase (turn p s heard)
 turn_falls p s None lawful within = unheard_falls p s s.phase refl lawful within
-turn_falls p s (Some h) lawful within =
-    cond_case (λ next. Falls p s s.phase next) (h.status == 503) _ _
-    (λ is. unheard_falls p s s.phase refl lawful within)
-    (λ not. answered_falls p s s.phase h refl lawful within)
+turn_falls p s (Some h) lawful within = search (rules, arith, cond_case, unheard_falls, answered_falls)
 
 -- the offset stays within the file
 pub Stays : Plan → Stand → Type 0
@@ -185,12 +117,10 @@ Stays p s = IsWithin p.size s.phase
 
 pub retry_within : (p : Plan) (s : Stand) (phase : Phase) → IsWithin p.size phase → Stays p (retry s phase)
 unfolding Stays
-retry_within p s phase within =
-    cond_case (Stays p) (s.tries == 0) _ _ (λ is. tt) (λ not. within)
+retry_within p s phase within = search (rules, arith, cond_case)
 
 pub send_from_within : (p : Plan) (at : List ℕ) (offset : ℕ) → IsWithin p.size (send_from p at offset)
-send_from_within p at offset =
-    cond_case (λ phase. IsWithin p.size phase) (nat_le offset p.size) _ _ (λ le. leb-true offset p.size le) (λ gt. tt)
+send_from_within p at offset = search (rules, arith, cond_case, nat_le, leb-true)
 
 pub opened_within : (p : Plan) (place : Option (List ℕ)) → IsWithin p.size (opened place)
 opened_within p (Some at) = omega arith
@@ -198,50 +128,24 @@ opened_within p None = tt
 
 pub taken_within : (p : Plan) (offset : ℕ) (place : Option (List ℕ)) (upto : Option ℕ)
     → IsWithin p.size (chunk_confirmed (chunk_end p offset) place upto)
-taken_within p offset (Some at) (Some last) =
-    cond_case (λ phase. IsWithin p.size phase) (last + 1 == chunk_end p offset) _ _ (λ is. omega arith) (λ not. tt)
-taken_within p offset None upto = tt
-taken_within p offset (Some at) None = tt
+taken_within p offset = search (rules, arith, cond_case)
 
 pub unheard_within : (p : Plan) (s : Stand) (phase : Phase) → s.phase ≡ phase → IsWithin p.size phase
     → Stays p (unheard s phase)
 unfolding Stays
-unheard_within p s Opening is within = retry_within p s Opening tt
-unheard_within p s (Sending at offset) is within = retry_within p s (Asking at) tt
-unheard_within p s (Asking at) is within = retry_within p s (Asking at) tt
-unheard_within p s Looking is within = retry_within p s Looking tt
-unheard_within p s (Done outcome) is within = subst (IsWithin p.size) (sym is) within
-unheard_within p s (GaveUp why) is within = subst (IsWithin p.size) (sym is) within
+unheard_within p s phase h1 h2 = search (rules, arith, retry_within)
 
 pub answered_within : (p : Plan) (s : Stand) (phase : Phase) (h : Heard) → s.phase ≡ phase → IsWithin p.size phase
     → Stays p (phase_answered p s phase h)
 unfolding Stays
-answered_within p s Opening h is within =
-    cond_case (Stays p) (h.status == 202) _ _ (λ is. opened_within p (place_of p.name h)) (λ not. tt)
-answered_within p s (Sending at offset) h is within =
-    cond_case (Stays p) (nat_lt offset p.size) _ _
-    (λ lt. cond_case (Stays p) (h.status == 202) _ _
-    (λ is. taken_within p offset (place_of p.name h) h.upto)
-    (λ not. cond_case (Stays p) (h.status == 416) _ _
-    (λ is. retry_within p s _ (send_from_within p at (count_to h.upto)))
-    (λ not. tt)))
-    (λ ge. cond_case (Stays p) (h.status == 201) _ _ (λ is. tt) (λ not. tt))
-answered_within p s (Asking at) h is within =
-    cond_case (Stays p) (h.status == 204) _ _
-    (λ is. send_from_within p at (count_to h.upto))
-    (λ not. cond_case (Stays p) (h.status == 404) _ _ (λ is. tt) (λ not. tt))
-answered_within p s Looking h is within = cond_case (Stays p) (h.status == 200) _ _ (λ is. tt) (λ not. tt)
-answered_within p s (Done outcome) h is within = subst (IsWithin p.size) (sym is) within
-answered_within p s (GaveUp why) h is within = subst (IsWithin p.size) (sym is) within
+answered_within p s phase h1 h2 h3 =
+    search (rules, arith, cond_case, opened_within, nat_lt, taken_within, retry_within, send_from_within)
 
 pub turn_within : (p : Plan) (s : Stand) (heard : Option Heard) → IsWithin p.size s.phase
     → IsWithin p.size (turn p s heard).phase
 unfolding Stays
 turn_within p s None within = unheard_within p s s.phase refl within
-turn_within p s (Some h) within =
-    cond_case (Stays p) (h.status == 503) _ _
-    (λ is. unheard_within p s s.phase refl within)
-    (λ not. answered_within p s s.phase h refl within)
+turn_within p s (Some h) within = search (rules, arith, cond_case, unheard_within, answered_within)
 
 pub all_within : (p : Push) (heard : List (Option Heard)) → IsWithin (length p.file) (after_all p heard).phase
 all_within p [] = tt

@@ -1,24 +1,22 @@
 -- What the last request of a push leaves in the service.
-use Rattle.std.proofs.Common.{◌≡◌, ℕ, inl, inr, true, List, [], ◌++◌, length, Option, Some, None, refl, arith, ap}
-use Rattle.std.proofs.Common.{subst, sym, ◌∙◌}
+use Rattle.std.proofs.Common.{◌≡◌, ℕ, true, List, [], ◌++◌, length, Option, Some, None, refl, arith, ap}
+use Rattle.std.proofs.Common.{◌∙◌, rules}
 use Rattle.std.specs.Prelude.{IsTrue, IsSome}
 use Rattle.std.proofs.lemmas.List.{take_all, append-nil}
 use Rattle.std.specs.FinMap as map
-use Rattle.upload_names.specs.Digest.{Digest, content_digest}
-use Rattle.upload_service.specs.declared.ask.Ask.{Ask}
+use Rattle.upload_names.specs.Digest.{Digest}
 use Rattle.upload_service.specs.declared.ask.Ask.TheVariants as asks
 use Rattle.upload_service.specs.declared.ask.Extent.TheVariants.{Absent}
 use Rattle.upload_service.specs.declared.answer.Answer.{Answer}
 use Rattle.upload_service.specs.declared.answer.Answer.TheVariants as answers
-use Rattle.upload_service.specs.UploadView.{Closes}
-use Rattle.upload_service.specs.Machine.{same_digest, Session, State, Outcome, Replies, Commits, state_after}
-use Rattle.upload_service.specs.Machine.{unless_fault, checked, blob_reply, holds, Comes, Turn, IsLawful}
+use Rattle.upload_service.specs.Machine.{Session, State, Outcome, Replies, Commits, state_after}
+use Rattle.upload_service.specs.Machine.{blob_reply, holds, Comes, Turn, IsLawful}
 use Rattle.upload_client.specs.Heard.{reply_heard}
 use Rattle.upload_push.specs.Slices.{Push}
 use Rattle.upload_push.specs.Promise.{IsStored, IsThere}
 use Rattle.upload_push.proofs.Cases.{cond_case}
 use Rattle.upload_service.proofs.Keeping.Tables.{blob-insert_same, contains-insert_same}
-use Rattle.upload_push.proofs.Turns.{size_case, session_case, turn_case}
+use Rattle.upload_push.proofs.Turns.{turn_case}
 use Rattle.upload_push.proofs.Uploads.{IsUpload, found_front}
 
 some_is : {A : Type 0} (o : Option A) → IsSome o → (x : A) × (o ≡ Some x)
@@ -27,9 +25,7 @@ some_is (Some x) e = (x, refl)
 
 -- if a lawful service has the pair, the bytes have the digest
 pub there_by_pair : (p : Push) (s : State) → IsLawful s → IsTrue (holds s p.name p.digest) → IsThere p s
-there_by_pair p s lawful pair =
-    let found = some_is (map.get s.blobs p.digest) (lawful.stored p.name p.digest pair) in
-    record { blob = found.0; bytes = found.1; own_digest = lawful.own_digest p.digest found.0 found.1; pair = pair }
+there_by_pair p s lawful pair = search (rules, arith, some_is)
 
 -- a reply of this status, after which this holds of the service
 abbrev Shows : (State → Type 0) → ℕ → Answer → State → Type 0
@@ -41,22 +37,12 @@ ShownBy Q status s now o = (answer : Answer) (new : State) → Comes s now o ans
 -- an outcome that only replies
 shown : (Q : State → Type 0) (status : ℕ) (s : State) (now : ℕ) (a : Answer) → Shows Q status a s
     → Shows Q status answers.NoMemory s → ShownBy Q status s now (Replies a)
-shown Q status s now a shows lacks answer new comes =
-    let K : Answer → State → Type 0 = Shows Q status in
-    elim comes [
-      | inl c ↦ subst (λ x. K x new) (sym c.0) (subst (K a) (sym c.1) shows)
-      | inr c ↦ subst (λ x. K x new) (sym c.1) (subst (K answers.NoMemory) (sym c.2) lacks)
-    ]
+shown Q status s now a shows lacks answer new comes = search (rules, arith)
 
 -- an outcome that commits a blob
 committed : (Q : State → Type 0) (s : State) (now : ℕ) (name at : List ℕ) (digest : Digest) (blob : List ℕ)
     → Q (state_after s now (Commits name at digest blob)) → ShownBy Q 201 s now (Commits name at digest blob)
-committed Q s now name at digest blob there answer new comes =
-    let K : Answer → State → Type 0 = Shows Q 201 in
-    elim comes [
-      | inl c ↦ subst (λ x. K x new) (sym c.0) (subst (K (answers.Stored name digest)) (sym c.1) (λ _. there))
-      | inr c ↦ subst (λ x. K x new) (sym c.1) (λ e. absurd (omega (arith, e)))
-    ]
+committed Q s now name at digest blob there answer new comes = search (rules, arith)
 
 -- a close of the push that is answered 201
 close_shows : (p : Push) (s : State) (now : ℕ) (secret at : List ℕ) (answer : Answer) (new : State) (Q : State → Type 0)
@@ -65,21 +51,7 @@ close_shows : (p : Push) (s : State) (now : ℕ) (secret at : List ℕ) (answer 
     → Turn s (asks.Close p.name at Absent (Some p.digest) []) secret now answer new
     → (reply_heard answer).status ≡ 201 → Q new
 close_shows p s now secret at answer new Q commits turn =
-    let ask : Ask = asks.Close p.name at Absent (Some p.digest) [] in
-    let P : Outcome → Type 0 = ShownBy Q 201 s now in
-    turn_case (Shows Q 201) s ask secret now answer new
-    (session_case P s now p.name at (Closes Absent (Some p.digest) [])
-    (shown Q 201 s now _ (λ e. absurd (omega (arith, e))) (λ e. absurd (omega (arith, e))))
-    (λ session is.
-    let blob : List ℕ = session.received ++ [] in
-    let done : Outcome = checked (Some p.digest) blob (λ d. Commits p.name at d blob) in
-    let P' : Option Answer → Type 0 = λ f. P (unless_fault f done) in
-    size_case P' s.limits.max_blob (length session.received) []
-    (shown Q 201 s now _ (λ e. absurd (omega (arith, e))) (λ e. absurd (omega (arith, e))))
-    (cond_case P (same_digest (content_digest p.digest.algorithm blob) p.digest) _ _
-    (λ _. committed Q s now p.name at p.digest blob (commits session is))
-    (λ _. shown Q 201 s now _ (λ e. absurd (omega (arith, e))) (λ e. absurd (omega (arith, e)))))))
-    turn
+    grind (arith, turn_case (Shows Q 201) s, shown Q 201 s now, committed Q s now p.name)
 
 -- whatever others did, the pair is there
 pub close_leaves_pair : (p : Push) (s : State) (now : ℕ) (secret at : List ℕ) (answer : Answer) (new : State)

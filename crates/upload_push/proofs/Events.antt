@@ -1,9 +1,9 @@
 -- What the world's events say of a request.
-use Rattle.std.proofs.Common.{◌≡◌, ℕ, List, [], ◌∷◌, ◌++◌, length, Option, Some, None, sym, ◌∙◌, ap, subst}
+use Rattle.std.proofs.Common.{◌≡◌, ℕ, List, [], ◌∷◌, ◌++◌, length, Option, Some, None, sym, ◌∙◌, ap, subst, arith}
 use Rattle.std.specs.Option.{option_to_list}
 use Rattle.std.specs.Vec.Iter.{into_iter_steps, into_iter_len}
 use Rattle.std.specs.declared.vec.IntoIter.{IntoIter}
-use Rattle.std.proofs.Common.{Global}
+use Rattle.std.proofs.Common.{Global, rules}
 use Rattle.std.proofs.lemmas.List.{nil_from_length}
 use Rattle.upload_service.specs.Machine.{State, Turn}
 use Rattle.upload_service.specs.declared.ask.Ask.{Ask}
@@ -20,9 +20,7 @@ first_left events rest next event is some = is ∙ ap (λ (o : Option Event). op
 
 pub nothing_left : (old new : IntoIter Event Global) (next : Option Event) → into_iter_steps old next new → next ≡ None
     → into_iter_len new ≡ 0
-nothing_left old new next steps none =
-    let step : Option Event → Type 0 = λ o. into_iter_steps old o new in
-    (subst step none steps).1
+nothing_left old new next steps none = search (rules, arith)
 
 none_left : (rest : List Event) → length rest ≡ 0 → rest ≡ []
 none_left rest e = nil_from_length rest e

@@ -1,6 +1,6 @@
 -- A push over a lossy world is one in a run: what the world's events bring is a run of its service.
 use Rattle.std.proofs.Common.{◌≡◌, ℕ, inl, inr, true, arith, List, [], ◌∷◌, Option, Some, None, refl, ap, subst, sym}
-use Rattle.std.proofs.Common.{◌∙◌}
+use Rattle.std.proofs.Common.{rules}
 use Rattle.upload_service.specs.declared.ask.Ask.{Ask}
 use Rattle.upload_service.specs.declared.ask.Ask.TheVariants as asks
 use Rattle.upload_service.specs.declared.answer.Answer.{Answer}
@@ -71,19 +71,13 @@ record Stays (w : World) (events : List Event) (new : World) : Type 0 where
 stays : (w : World) (events : List Event) (ask : Ask) (heard : Option Heard) (new : World)
     → AskedBy w events ask heard new → Stays w events new
 stays w (Other other ∷ events) ask heard new asked =
-    let after = stays (world_with w asked.1 events) events ask heard new asked.3 in
-    record { secret = after.secret; left = after.left }
+    search (rules, arith, stays (world_with w asked.1 events) events ask heard new asked.3)
 stays w (Passes seconds ∷ events) ask heard new asked =
-    let after = stays (world_later w seconds events) events ask heard new asked in
-    record { secret = after.secret; left = after.left }
-stays w (Delivered ∷ events) ask heard new asked =
-    record { secret = ap (λ (x : World). x.secret) asked.4; left = ap (λ (x : World). x.events) asked.4 }
-stays w (ReplyLost ∷ events) ask heard new asked =
-    record { secret = ap (λ (x : World). x.secret) asked.4; left = ap (λ (x : World). x.events) asked.4 }
-stays w (NotDelivered ∷ events) ask heard new asked =
-    record { secret = ap (λ (x : World). x.secret) asked.1; left = ap (λ (x : World). x.events) asked.1 }
-stays w [] ask heard new asked =
-    record { secret = ap (λ (x : World). x.secret) asked.4; left = ap (λ (x : World). x.events) asked.4 }
+    search (rules, arith, stays (world_later w seconds events) events ask heard new asked)
+stays w (Delivered ∷ events) ask heard new asked = search (rules, arith)
+stays w (ReplyLost ∷ events) ask heard new asked = search (rules, arith)
+stays w (NotDelivered ∷ events) ask heard new asked = search (rules, arith)
+stays w [] ask heard new asked = search (rules, arith)
 
 harmless : (p : Push) (place : Option (List ℕ)) (ask : Ask) → Avoids place ask → IsHarmless p place ask
 harmless p None ask avoids = tt
@@ -95,12 +89,15 @@ quiet_before : (p : Push) (place : Option (List ℕ)) (w : World) (events : List
     → (asked : AskedBy w events ask heard new) → AvoidAll place (others_in_front events)
     → AreHarmless p place (in_run w events ask heard new is_secret asked).before
 unfolding in_run turned
-quiet_before p place w (Other other ∷ events) ask heard new is_secret asked avoid = (
-  harmless p place other avoid.0,
-  quiet_before p place (world_with w asked.1 events) events ask heard new is_secret asked.3 avoid.1,
-)
+quiet_before p place w (Other other ∷ events) ask heard new is_secret asked avoid =
+    search (
+      rules,
+      arith,
+      harmless,
+      quiet_before p place (world_with w asked.1 events) events ask heard new is_secret asked.3 avoid.1,
+    )
 quiet_before p place w (Passes seconds ∷ events) ask heard new is_secret asked avoid =
-    quiet_before p place (world_later w seconds events) events ask heard new is_secret asked avoid
+    grind (arith, quiet_before p place (world_later w seconds events) events ask heard new is_secret asked avoid)
 quiet_before p place w (Delivered ∷ events) ask heard new is_secret asked avoid = tt
 quiet_before p place w (ReplyLost ∷ events) ask heard new is_secret asked avoid = tt
 quiet_before p place w (NotDelivered ∷ events) ask heard new is_secret asked avoid = tt
@@ -113,15 +110,8 @@ record StaysAll (old : World) (log : List Attempt) (new : World) : Type 0 where
   left : new.events ≡ events_after old.events log
 
 stays_all : (old new : World) (log : List Attempt) → Leads Asked old log new → StaysAll old log new
-stays_all old new [] leads =
-    record { secret = ap (λ (w : World). w.secret) leads; left = ap (λ (w : World). w.events) leads }
-stays_all old new (e ∷ log) leads =
-    let so_far = stays_all old leads.0 log leads.1 in
-    let here = stays leads.0 leads.0.events e.ask e.heard new leads.2 in
-    record {
-      secret = here.secret ∙ so_far.secret;
-      left = here.left ∙ ap (λ (es : List Event). events_left es) so_far.left;
-    }
+stays_all old new [] leads = search (rules, arith)
+stays_all old new (e ∷ log) leads = search (rules, arith, stays, stays_all old leads.0 log leads.1)
 
 secret_after : (old mid : World) (log : List Attempt) → IsSecret old.secret → Leads Asked old log mid
     → IsSecret mid.secret

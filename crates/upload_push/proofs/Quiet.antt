@@ -1,6 +1,6 @@
 -- Where no event is another client's request, the premise on other clients holds.
-use Rattle.std.proofs.Common.{ℕ, List, [], ◌∷◌, Option}
-use Rattle.upload_push.specs.Slices.{Attempt, heard_place}
+use Rattle.std.proofs.Common.{ℕ, List, [], ◌∷◌, Option, arith, rules}
+use Rattle.upload_push.specs.Slices.{Attempt}
 use Rattle.upload_push.specs.Promise.{AreOwn, AloneIsQuiet, AvoidAll, events_left, events_after, others_in_front}
 use Rattle.upload_push.specs.declared.world.Event.{Event}
 use Rattle.upload_push.specs.declared.world.Event.TheVariants.{Delivered, ReplyLost, NotDelivered, Other, Passes}
@@ -28,7 +28,5 @@ none_in_front place (NotDelivered ∷ events) own = tt
 
 pub alone_is_quiet : AloneIsQuiet
 alone_is_quiet name events [] own = tt
-alone_is_quiet name events (e ∷ log) own = (
-  none_in_front (heard_place name log) (events_after events log) (own_after events log own),
-  alone_is_quiet name events log own,
-)
+alone_is_quiet name events (e ∷ log) own =
+    search (rules, arith, none_in_front, own_after, alone_is_quiet name events log own)

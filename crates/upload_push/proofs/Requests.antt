@@ -1,15 +1,15 @@
 -- A sound request of a push, case by case.
-use Rattle.std.proofs.Common.{◌≡◌, ℕ, List, [], length, true, Option, Some, refl, subst, sym, ◌∙◌}
+use Rattle.std.proofs.Common.{◌≡◌, ℕ, List, [], length, true, Option, Some, refl, arith, rules}
 use Rattle.upload_names.specs.ByteRange.{Span}
 use Rattle.upload_names.specs.Digest.{Digest}
 use Rattle.upload_service.specs.declared.ask.Ask.{Ask}
 use Rattle.upload_service.specs.declared.ask.Ask.TheVariants.{Has, Opening, Chunk, Status, Close}
 use Rattle.upload_service.specs.declared.ask.Extent.{Extent}
-use Rattle.upload_service.specs.declared.ask.Extent.TheVariants.{Absent, Bad, Given}
-use Rattle.upload_service.specs.UploadView.{Act, UploadView, OfSession, Opens, WholeBlob, Unrelated, upload_view}
+use Rattle.upload_service.specs.declared.ask.Extent.TheVariants.{Absent, Given}
+use Rattle.upload_service.specs.UploadView.{Act, UploadView, upload_view}
 use Rattle.upload_service.proofs.Steps.{is_session_ask, session_ask}
 use Rattle.upload_push.specs.Runs.{IsActOf, IsRequestOf}
-use Rattle.upload_push.specs.Slices.{Push, Attempt, heard_offset, heard_place, IsNextChunk, IsWholeClose, IsSoundAsk}
+use Rattle.upload_push.specs.Slices.{Push, Attempt, heard_offset, heard_place, IsNextChunk, IsSoundAsk}
 use Rattle.upload_push.specs.Slices.{IsClose, IsHead}
 
 -- a close of the push, with what it says spelled out
@@ -31,22 +31,7 @@ pub record HoldsOfSound (p : Push) (log : List Attempt) (P : Ask → Type 0) : T
 -- it holds of a sound request
 pub by_sound : (p : Push) (log : List Attempt) (P : Ask → Type 0) → HoldsOfSound p log P → (ask : Ask)
     → IsSoundAsk p log ask → P ask
-by_sound p log P each (Opening name) sound = subst (λ (n : List ℕ). P (Opening n)) (sym sound) each.opening
-by_sound p log P each (Chunk name at (Given range) body) sound =
-    subst (λ (n : List ℕ). P (Chunk n at (Given range) body)) (sym sound.0) (each.chunk at range body sound.1 sound.2)
-by_sound p log P each (Chunk name at Absent body) sound = absurd sound.2
-by_sound p log P each (Chunk name at Bad body) sound = absurd sound.2
-by_sound p log P each (Status name at) sound =
-    subst (λ (n : List ℕ). P (Status n at)) (sym sound.0) (each.status at sound.1)
-by_sound p log P each (Close name at range digest body) sound =
-    let whole : IsWholeClose p (heard_offset log) range digest body = sound.2 in
-    subst P
-    (sym (whole_close p at range digest body whole.no_range whole.own_digest whole.no_body)
-    ∙ (λ i. Close (sym sound.0 i) at range digest body))
-    (each.close at sound.1 whole.all)
-by_sound p log P each (Has name digest head) sound =
-    subst P (λ i. Has (sym sound.0 i) (sym sound.1 i) (sym sound.2 i)) each.head
-by_sound p log P each other sound = absurd sound
+by_sound p log P h ask = search (rules, arith, whole_close)
 
 -- a sound close
 pub record IsOwnClose (p : Push) (log : List Attempt) (ask : Ask) : Type 0 where
@@ -57,24 +42,12 @@ pub record IsOwnClose (p : Push) (log : List Attempt) (ask : Ask) : Type 0 where
 
 pub own_close : (p : Push) (log : List Attempt) (ask : Ask) → IsSoundAsk p log ask → IsClose ask
     → IsOwnClose p log ask
-own_close p log ask sound (name, at, range, digest, body, is) =
-    let here : IsSoundAsk p log (Close name at range digest body) = subst (IsSoundAsk p log) is sound in
-    let whole : IsWholeClose p (heard_offset log) range digest body = here.2 in
-    record {
-      at = at;
-      is =
-          is ∙ (λ i. Close (here.0 i) at range digest body)
-          ∙ whole_close p at range digest body whole.no_range whole.own_digest whole.no_body;
-      place = here.1;
-      all = whole.all;
-    }
+own_close p log ask sound (name, at, range, digest, body, is) = search (rules, arith, whole_close)
 
 -- a sound HEAD
 pub own_head : (p : Push) (log : List Attempt) (ask : Ask) → IsSoundAsk p log ask → IsHead ask
     → ask ≡ Has p.name p.digest true
-own_head p log ask sound is_head =
-    let here : IsSoundAsk p log (Has is_head.0 is_head.1 true) = subst (IsSoundAsk p log) is_head.2 sound in
-    is_head.2 ∙ (λ i. Has (here.0 i) (here.1 i) true)
+own_head p log ask sound is_head = search (rules, arith)
 
 -- a late request of the push, by what it asks of its upload
 pub record IsOwnAct (p : Push) (at : List ℕ) (ask : Ask) : Type 0 where
@@ -84,15 +57,7 @@ pub record IsOwnAct (p : Push) (at : List ℕ) (ask : Ask) : Type 0 where
 
 act_of_view : (p : Push) (at : List ℕ) (ask : Ask) (v : UploadView) → upload_view ask ≡ v → IsRequestOf p at v
     → IsOwnAct p at ask
-act_of_view p at ask (OfSession name to act) view is =
-    record {
-      act = act;
-      is = is_session_ask ask p.name at act (view ∙ (λ i. OfSession (is.0 i) (is.1 i) act));
-      own = is.2;
-    }
-act_of_view p at ask (Opens name) view is = absurd is
-act_of_view p at ask (WholeBlob body) view is = absurd is
-act_of_view p at ask Unrelated view is = absurd is
+act_of_view p at ask v h = search (rules, arith, is_session_ask)
 
 pub own_act : (p : Push) (at : List ℕ) (ask : Ask) → IsRequestOf p at (upload_view ask) → IsOwnAct p at ask
 own_act p at ask is = act_of_view p at ask (upload_view ask) refl is

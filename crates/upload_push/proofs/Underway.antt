@@ -1,5 +1,6 @@
 -- A push under way over a transport.
-use Rattle.std.proofs.Common.{◌≡◌, ℕ, ◌<◌, List, [], ◌∷◌, length, Option, Some, refl, arith, ap, subst, sym, ◌∙◌}
+use Rattle.std.proofs.Common.{rules}
+use Rattle.std.proofs.Common.{◌≡◌, ℕ, ◌<◌, List, ◌∷◌, length, Option, Some, arith, ap, subst, sym, ◌∙◌}
 use Rattle.std.specs.Prelude.{Result}
 use Rattle.upload_push.proofs.Count.{Falls, turn_falls, all_within, lawful_plan, asked}
 use Rattle.upload_push.specs.Steps.{Plan, PushState, turn, ask_at, standing_at, IsStepAt, IsStepOf, IsAskWithin}
@@ -11,11 +12,10 @@ use Rattle.upload_service.specs.declared.ask.Ask.{Ask}
 use Rattle.upload_push.specs.declared.pusher.PushAsk.{PushAsk}
 use Rattle.upload_push.specs.declared.pusher.Outcome.{Outcome}
 use Rattle.upload_names.specs.Digest.{Digest}
-use Rattle.upload_push.specs.declared.pusher.Why.{Why}
 use Rattle.upload_push.specs.declared.pusher.PushStep.{PushStep}
 use Rattle.upload_push.specs.declared.pusher.PushStep.TheVariants as steps
 use Rattle.upload_push.specs.declared.pusher.Phase.{Phase}
-use Rattle.upload_push.specs.declared.pusher.Phase.TheVariants.{Opening, Sending, Asking, Looking, Done, GaveUp}
+use Rattle.upload_push.specs.declared.pusher.Phase.TheVariants.{Opening, Done, GaveUp}
 use Rattle.upload_push.specs.declared.pushing.PushFault.{PushFault}
 
 -- what the loop keeps: all that was heard, and the transport's way by these requests
@@ -27,21 +27,11 @@ pub record IsUnderway {S : Type 0} (asks : S → Ask → Option Heard → S → 
 
 pub step_asks : (p : Plan) (phase : Phase) (ask : PushAsk) → IsStepAt p phase (steps.Ask ask)
     → ask_at p phase ≡ Some ask
-step_asks p Opening ask step = step
-step_asks p (Sending at offset) ask step = step
-step_asks p (Asking at) ask step = step
-step_asks p Looking ask step = step
-step_asks p (Done outcome) ask step = cc
-step_asks p (GaveUp why) ask step = absurd step
+step_asks p phase ask h = search (rules, arith)
 
 pub step_done : (p : Plan) (phase : Phase) (outcome : Outcome) → IsStepAt p phase (steps.Done outcome)
     → phase ≡ Done outcome
-step_done p Opening outcome step = absurd step
-step_done p (Sending at offset) outcome step = absurd step
-step_done p (Asking at) outcome step = absurd step
-step_done p Looking outcome step = absurd step
-step_done p (Done same) outcome step = cc
-step_done p (GaveUp why) outcome step = absurd step
+step_done p phase outcome h = search (rules, arith)
 
 -- what a step says of the phase
 abbrev pub Says : Phase → PushStep → Type 0
@@ -50,48 +40,29 @@ Says phase (steps.Done outcome) = phase ≡ Done outcome
 Says phase (steps.GaveUp shown) = phase ≡ GaveUp shown.now
 
 pub step_says : (p : Plan) (phase : Phase) (step : PushStep) → IsStepAt p phase step → Says phase step
-step_says p phase (steps.Ask ask) is = tt
-step_says p phase (steps.Done outcome) is = step_done p phase outcome is
-step_says p (GaveUp why) (steps.GaveUp shown) is = ap (λ (w : Why). GaveUp w) (sym is)
-step_says p Opening (steps.GaveUp shown) is = absurd is
-step_says p (Sending at offset) (steps.GaveUp shown) is = absurd is
-step_says p (Asking at) (steps.GaveUp shown) is = absurd is
-step_says p Looking (steps.GaveUp shown) is = absurd is
-step_says p (Done outcome) (steps.GaveUp shown) is = cc
+step_says p phase step = search (rules, arith, step_done)
 
 pub started : {S : Type 0} (asks : S → Ask → Option Heard → S → Type 0) (p : Push) (old : S) (s : PushState)
     (name : List ℕ) (digest : Digest) → name ≡ p.name → digest ≡ p.digest → s ≡ record {
       plan = record { name = name; digest = digest; size = length p.file; chunk = p.chunk };
       stand = record { phase = Opening; tries = p.tries };
     } → IsUnderway asks p old old s
-started asks p old s name digest name_is digest_is is =
-    let named : (List ℕ → Digest → PushState) = λ n d. record {
-      plan = record { name = n; digest = d; size = length p.file; chunk = p.chunk };
-      stand = record { phase = Opening; tries = p.tries };
-    } in
-    record {
-      heard = [];
-      leads = refl;
-      stands = is ∙ ap (λ (n : List ℕ). named n digest) name_is ∙ ap (λ (d : Digest). named p.name d) digest_is;
-    }
+started asks p old s name digest name_is digest_is is = search (rules, arith)
 
 -- the request as the loop makes it
 pub sent : {S : Type 0} (asks : S → Ask → Option Heard → S → Type 0) (p : Push) (mid new : S) (digest : Digest)
     (ask : PushAsk) (h : Option Heard) → digest ≡ p.digest → asks mid (request_of p.name digest p.file ask) h new
     → asks mid (request p ask) h new
-sent asks p mid new digest ask h digest_is done =
-    subst (λ (d : Digest). asks mid (request_of p.name d p.file ask) h new) digest_is done
+sent asks p mid new digest ask h digest_is done = search (rules, arith)
 
 pub within_file : {S : Type 0} (asks : S → Ask → Option Heard → S → Type 0) (p : Push) (old new : S) (s : PushState)
     (ask : PushAsk) → IsUnderway asks p old new s → IsAskWithin s.plan.size ask → IsAskWithin (length p.file) ask
-within_file asks p old new s ask so_far within =
-    subst (λ (t : PushState). IsAskWithin t.plan.size ask) so_far.stands within
+within_file asks p old new s ask so_far within = search (rules, arith)
 
 pub ask_now : (p : Push) (s : PushState) (heard : List (Option Heard)) (ask : PushAsk)
     → s ≡ record { plan = plan_of p; stand = after_all p heard } → IsStepOf s (steps.Ask ask)
     → ask_at (plan_of p) (after_all p heard).phase ≡ Some ask
-ask_now p s heard ask is step =
-    step_asks (plan_of p) (after_all p heard).phase ask (subst (λ (t : PushState). IsStepOf t (steps.Ask ask)) is step)
+ask_now p s heard ask is step = search (rules, arith, step_asks)
 
 -- one request more
 pub moved : {S : Type 0} (asks : S → Ask → Option Heard → S → Type 0) (p : Push) (old mid new : S) (s next : PushState)
@@ -112,27 +83,14 @@ pub fewer : {S : Type 0} (asks : S → Ask → Option Heard → S → Type 0) (p
     → next ≡ standing_at s (turn s.plan s.stand h) → asks_left next.plan next.stand < asks_left s.plan s.stand
 unfolding Falls
 fewer asks p old mid s next ask h lawful so_far step is =
-    let now = ask_now p s so_far.heard ask so_far.stands step in
-    let here = after_all p so_far.heard in
-    let falls = turn_falls (plan_of p) here h (lawful_plan p lawful) (all_within p so_far.heard) in
-    let one : asked (ask_at (plan_of p) here.phase) ≡ 1 = ap asked now in
-    let next_is = is ∙ ap (λ (t : PushState). standing_at t (turn t.plan t.stand h)) so_far.stands in
-    let left_next = ap (λ (t : PushState). asks_left t.plan t.stand) next_is in
-    let left_here = ap (λ (t : PushState). asks_left t.plan t.stand) so_far.stands in
-    omega (arith, falls, one, left_next, left_here)
+    search (rules, arith, ask_now, turn_falls, lawful_plan, all_within, asked, asks_left)
 
 pub ended : {S : Type 0} (asks : S → Ask → Option Heard → S → Type 0) (p : Push) (old new : S) (s : PushState)
     (end : Result Outcome PushFault) → IsUnderway asks p old new s → IsEnd s.stand.phase end → IsPush asks p old new end
-ended asks p old new s end so_far is =
-    record {
-      heard = so_far.heard;
-      leads = so_far.leads;
-      ends = subst (λ (t : PushState). IsEnd t.stand.phase end) so_far.stands is;
-    }
+ended asks p old new s end so_far is = search (rules, arith)
 
 -- the transport was asked nothing more
 pub unasked : {S : Type 0} (asks : S → Ask → Option Heard → S → Type 0) (p : Push) (old mid new : S) (s : PushState)
     (end : Result Outcome PushFault) → IsUnderway asks p old mid s → new ≡ mid → IsEnd s.stand.phase end
     → IsPush asks p old new end
-unasked asks p old mid new s end so_far same is =
-    ended asks p old new s end (subst (λ t. IsUnderway asks p old t s) (sym same) so_far) is
+unasked asks p old mid new s end so_far same is = search (rules, arith, ended)

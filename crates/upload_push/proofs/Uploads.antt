@@ -1,9 +1,9 @@
 -- The upload of a push in the service: it is open with the first bytes of the file, or it is gone.
-use Rattle.std.proofs.Common.{◌≡◌, ℕ, ◌+◌, ◌-◌, ◌≤◌, ◌⊎◌, inl, inr, Bool, false, List, [], ◌++◌, length, take, drop}
-use Rattle.std.proofs.Common.{Option, Some, None, refl, arith, ap, subst, sym, ◌∙◌, length-append}
+use Rattle.std.proofs.lemmas.Grind.{common_steps}
+use Rattle.std.proofs.Common.{◌≡◌, ℕ, ◌+◌, ◌≤◌, ◌⊎◌, inl, inr, Bool, false, List, [], ◌++◌, length, take}
+use Rattle.std.proofs.Common.{Option, Some, None, refl, arith, subst, sym, length-append, rules}
 use Rattle.std.proofs.lemmas.List.{length-take-le}
 use Rattle.std.proofs.Math.Seq.{take-add}
-use Rattle.std.specs.Prelude.{◌==◌}
 use Rattle.std.proofs.lemmas.Bool.{eqb-true, eqb-false}
 use Rattle.std.specs.FinMap as map
 use Rattle.upload_names.specs.Digest.{Digest, content_digest}
@@ -72,9 +72,7 @@ others_keep others file s ask secret now answer new at offset lawful turn avoids
 pub keep_place : OthersLeaveIt → (file : List ℕ) (s : State) (ask : Ask) (secret : List ℕ) (now : ℕ) (answer : Answer)
     (new : State) (place : Option (List ℕ)) (offset : ℕ) → IsLawful s → Turn s ask secret now answer new
     → Avoids place ask → IsUpload file s place offset → IsUpload file new place offset
-keep_place others file s ask secret now answer new None offset lawful turn avoids up = tt
-keep_place others file s ask secret now answer new (Some at) offset lawful turn avoids up =
-    others_keep others file s ask secret now answer new at offset lawful turn avoids up
+keep_place h1 file s ask secret now answer new place offset h2 h3 h4 h5 = search (rules, arith, others_keep)
 
 pub avoids_opening : (name : List ℕ) (place : Option (List ℕ)) → Avoids place (asks.Opening name)
 avoids_opening name None = tt
@@ -83,11 +81,7 @@ avoids_opening name (Some at) = refl
 -- the session that is found is the push's
 pub found_front : (file : List ℕ) (s : State) (at : List ℕ) (offset : ℕ) (session : Session)
     → IsUpload file s (Some at) offset → map.get s.sessions at ≡ Some session → IsFront file offset at session
-found_front file s at offset session up is =
-    elim up [
-      | inl o ↦ subst (IsFront file offset at) (same_inside (sym o.is ∙ is)) o.has
-      | inr gone ↦ absurd (None≢Some (sym gone.0 ∙ is))
-    ]
+found_front file s at offset session up is = search (rules, arith, same_inside, None≢Some)
 
 -- the upload after a request of the push, unheard and heard
 abbrev pub IsKept : Push → Ask → Option (List ℕ) → ℕ → Answer → State → Type 0
@@ -104,12 +98,7 @@ KeptBy p s now ask place offset o =
 pub replied : (p : Push) (s : State) (now : ℕ) (ask : Ask) (place : Option (List ℕ)) (offset : ℕ) (a : Answer)
     → IsKept p ask place offset a s → IsKept p ask place offset answers.NoMemory s
     → KeptBy p s now ask place offset (Replies a)
-replied p s now ask place offset a kept lacks answer new comes =
-    let K : Answer → State → Type 0 = IsKept p ask place offset in
-    elim comes [
-      | inl c ↦ subst (λ x. K x new) (sym c.0) (subst (K a) (sym c.1) kept)
-      | inr c ↦ subst (λ x. K x new) (sym c.1) (subst (K answers.NoMemory) (sym c.2) lacks)
-    ]
+replied p s now ask place offset a kept lacks answer new comes = search (rules, arith)
 
 -- an outcome that changes the service
 pub changed : (p : Push) (s : State) (now : ℕ) (ask : Ask) (place : Option (List ℕ)) (offset : ℕ) (a : Answer)
@@ -124,39 +113,19 @@ changed p s now ask place offset a t o parts kept lacks answer new comes =
     ]
 
 pub count_last : (next : ℕ) → count_to (last_below next) ≡ next
-count_last next =
-    cond_case (λ (o : Option ℕ). count_to o ≡ next) (next == 0) None (Some (next - 1)) (λ is. sym (eqb-true next 0 is))
-    (λ some. let not = eqb-false next 0 some in omega (arith, not))
+count_last next = search (rules, arith, cond_case, eqb-true, eqb-false)
 
 -- the first bytes of the file, with the chunk after them
 pub longer_front : (p : Push) (bytes body : List ℕ) (range : Span) → IsPart p range body
     → range.first ≡ length bytes → bytes ≡ take (length bytes) p.file
     → bytes ++ body ≡ take (length (bytes ++ body)) p.file
-longer_front p bytes body range next at front =
-    let size = range.last + 1 - range.first in
-    let within = next.within in
-    let some = next.some in
-    let body_is : body ≡ take size (drop (length bytes) p.file) =
-    next.bytes ∙ ap (λ (n : ℕ). take size (drop n p.file)) at in
-    let whole : bytes ++ body ≡ take (length bytes + size) p.file =
-    ap (λ (x : List ℕ). x ++ body) front
-    ∙ ap (λ (x : List ℕ). take (length bytes) p.file ++ x) body_is
-    ∙ sym (take-add (length bytes) size p.file) in
-    let count : length (bytes ++ body) ≡ length bytes + size =
-    ap (λ (x : List ℕ). length x) whole ∙ length-take-le (length bytes + size) p.file (omega arith) in
-    whole ∙ ap (λ (n : ℕ). take n p.file) (sym count)
+longer_front p bytes body range next at front = grind (arith, common_steps, take-add, length-take-le)
 
 -- an upload at the offset that its session stands at
 pub at_offset : (p : Push) (s : State) (at : List ℕ) (session : Session) (offset : ℕ)
     → map.get s.sessions at ≡ Some session → IsFront p.file offset at session
     → IsUpload p.file s (Some at) (count_to (last_below (length session.received)))
-at_offset p s at session offset is has =
-    let count = count_last (length session.received) in
-    inl (record {
-      session = session;
-      is = is;
-      has = record { reference = has.reference; front = has.front; reaches = omega (arith, count) };
-    })
+at_offset p s at session offset is has = search (rules, arith, count_last)
 
 -- what is written as an upload's place is read as its reference
 abbrev pub PlacesReadBack : Type 0

@@ -1,6 +1,7 @@
 -- The way of a push through a run of the service, and what its end is worth.
-use Rattle.std.proofs.Common.{refl, ◌≡◌, ℕ, inl, inr, true, List, [], ◌∷◌, Option, Some, None, ap, subst, sym, ◌∙◌}
-use Rattle.std.specs.Prelude.{Result, Ok, IsTrue, if◌then◌else◌}
+use Rattle.std.proofs.Common.{arith, rules}
+use Rattle.std.proofs.Common.{refl, ◌≡◌, ℕ, inl, inr, true, List, [], ◌∷◌, Option, Some, None, subst, sym}
+use Rattle.std.specs.Prelude.{Result, Ok, IsTrue}
 use Rattle.upload_service.specs.declared.ask.Ask.{Ask}
 use Rattle.upload_service.specs.declared.ask.Ask.TheVariants as asks
 use Rattle.upload_service.specs.declared.ask.Extent.{Extent}
@@ -10,7 +11,7 @@ use Rattle.upload_service.specs.Machine.{State, Turn, IsLawful, holds}
 use Rattle.upload_service.specs.Headline.{HeadlineHolds, OthersLeaveIt}
 use Rattle.upload_service.specs.Run as served
 use Rattle.upload_service.specs.Run.{Run}
-use Rattle.upload_service.specs.UploadView.{Act, act_view, UploadView, OfSession, Opens, WholeBlob, Unrelated}
+use Rattle.upload_service.specs.UploadView.{Act, UploadView}
 use Rattle.upload_service.specs.UploadView.{upload_view}
 use Rattle.upload_client.specs.Heard.{reply_heard}
 use Rattle.upload_push.specs.Slices.{Push, Attempt, after_all, log_of, heard_offset, heard_place, offset_by}
@@ -77,22 +78,20 @@ late_keeps laws p s secret now at offset ask answer new lawful is up turn =
 harmless_keeps : Laws → (p : Push) (s : State) (x : served.Exchange) (new : State) (place : Option (List ℕ))
     (offset : ℕ) → IsLawful s → IsHarmless p place x.ask → IsUpload p.file s place offset
     → Turn s x.ask x.secret x.now x.answer new → IsUpload p.file new place offset
-harmless_keeps laws p s x new None offset lawful harmless up turn = tt
-harmless_keeps laws p s x new (Some at) offset lawful harmless up turn =
-    elim harmless [
-      | inl avoids ↦ others_keep laws.others p.file s x.ask x.secret x.now x.answer new at offset lawful turn avoids up
-      | inr own ↦ late_keeps laws p s x.secret x.now at offset x.ask x.answer new lawful own up turn
-    ]
+harmless_keeps h1 p s x new place offset h2 h3 h4 h5 = search (rules, arith, others_keep, late_keeps)
 
 run_keeps : Laws → (p : Push) (old : State) (xs : List served.Exchange) (new : State) (place : Option (List ℕ))
     (offset : ℕ) → IsLawful old → AreHarmless p place xs → IsUpload p.file old place offset → Run old xs new
     → IsUpload p.file new place offset
-run_keeps laws p old [] new place offset lawful harmless up run =
-    subst (λ (s : State). IsUpload p.file s place offset) (sym run) up
+run_keeps laws p old [] new place offset lawful harmless up run = search (rules, arith, IsUpload)
 run_keeps laws p old (x ∷ xs) new place offset lawful harmless up run =
-    run_keeps laws p run.0 xs new place offset
-    (lawful_turn laws.headline old x.ask x.secret x.now x.answer run.0 lawful run.1) harmless.1
-    (harmless_keeps laws p old x run.0 place offset lawful harmless.0 up run.1) run.2
+    search (
+      rules,
+      arith,
+      lawful_turn,
+      harmless_keeps,
+      run_keeps laws p run.0 xs new place offset (lawful_turn laws.headline old x.ask x.secret x.now x.answer run.0 lawful run.1) harmless.1 (harmless_keeps laws p old x run.0 place offset lawful harmless.0 up run.1) run.2,
+    )
 
 -- ---- its own requests
 
@@ -130,11 +129,7 @@ own_keeps laws p log s secret now ask answer new is_secret lawful sound up turn 
 
 came_lawful : Laws → (s : State) (ask : Ask) (heard : Option Heard) (new : State) → IsLawful s
     → ComesTo s ask heard new → IsLawful new
-came_lawful laws s ask heard new lawful comes =
-    elim comes [
-      | inl t ↦ lawful_turn laws.headline s ask t.secret t.now t.answer new lawful t.turn
-      | inr lost ↦ subst IsLawful (sym lost.0) lawful
-    ]
+came_lawful laws s ask heard new lawful comes = search (rules, arith, lawful_turn)
 
 -- no code that is heard says how far an upload is
 told_apart : (chunk : Option (Extent × List ℕ)) (h : Heard) (code : Option (List ℕ)) (offset : ℕ)
@@ -144,11 +139,7 @@ told_apart None h code offset = refl
 
 code_apart : (view : UploadView) (h : Heard) (code : Option (List ℕ)) (offset : ℕ)
     → offset_by view (record h { code = code }) offset ≡ offset_by view h offset
-code_apart (OfSession name at act) h code offset =
-    ap (λ n. if (act_view act).closes then offset else n) (told_apart (act_view act).chunk h code offset)
-code_apart (Opens name) h code offset = refl
-code_apart (WholeBlob body) h code offset = refl
-code_apart Unrelated h code offset = refl
+code_apart view h code = search (rules, arith, told_apart)
 
 -- the upload after a request that came to this
 came_kept : (p : Push) (s : State) (ask : Ask) (heard : Option Heard) (new : State)
@@ -180,8 +171,7 @@ lawful_after laws old new (e ∷ log) lawful leads =
 
 lawful_met : Laws → (old mid new : State) (e : Attempt) (log : List Attempt) → IsLawful old
     → Leads AskedInRun old log mid → (asked : AskedInRun mid e.ask e.heard new) → IsLawful asked.met
-lawful_met laws old mid new e log lawful leads asked =
-    lawful_run laws mid asked.before asked.met (lawful_after laws old mid log lawful leads) asked.run
+lawful_met laws old mid new e log lawful leads asked = search (rules, arith, lawful_run, lawful_after)
 
 -- the upload after the requests of a push, and the one that the next meets, under the premise on what is served between
 -- them
@@ -204,55 +194,26 @@ uploads laws p old new (e ∷ log) lawful sound leads quiet =
 -- the status that was heard is the reply's
 told_status : (answer : Answer) (h : Heard) (status : ℕ) → IsHeardOf answer (Some h) → h.status ≡ status
     → (reply_heard answer).status ≡ status
-told_status answer h status reaches is =
-    elim reaches [
-      | inl lost ↦ absurd (None≢Some (sym lost))
-      | inr told ↦ sym (ap (λ (x : Heard). x.status) (same_inside told.1)) ∙ is
-    ]
+told_status answer h status reaches is = search (rules, arith, None≢Some, same_inside)
 
 -- a close that is answered 201, beside any clients
 closed_pair : (p : Push) (log : List Attempt) (s : State) (ask : Ask) (heard : Option Heard) (new : State)
     → IsSoundAsk p log ask → IsClose ask → HeardStatus heard 201 → ComesTo s ask heard new
     → IsTrue (holds new p.name p.digest)
-closed_pair p log s ask (Some h) new sound close status comes =
-    let own = own_close p log ask sound close in
-    elim comes [
-      | inl t ↦ close_leaves_pair p s t.now t.secret own.at t.answer new
-          (subst (λ a. Turn s a t.secret t.now t.answer new) own.is t.turn)
-          (told_status t.answer h 201 t.reaches status)
-      | inr lost ↦ absurd (None≢Some (sym lost.1))
-    ]
-closed_pair p log s ask None new sound close status comes = absurd status
+closed_pair p log s ask heard new h1 h2 h3 = search (rules, arith, own_close, close_leaves_pair, told_status, None≢Some)
 
 -- a close that is answered 201, of the push's own upload
 closed_file : (p : Push) (log : List Attempt) (s : State) (ask : Ask) (heard : Option Heard) (new : State)
     → IsSoundAsk p log ask → IsUpload p.file s (heard_place p.name log) (heard_offset log) → IsClose ask
     → HeardStatus heard 201 → ComesTo s ask heard new → IsStored p new
-closed_file p log s ask (Some h) new sound up close status comes =
-    let U : Option (List ℕ) → Type 0 = λ x. IsUpload p.file s x (heard_offset log) in
-    let own = own_close p log ask sound close in
-    elim comes [
-      | inl t ↦
-          close_leaves_file p s t.now t.secret own.at (heard_offset log) t.answer new (subst U own.place up) own.all
-          (subst (λ a. Turn s a t.secret t.now t.answer new) own.is t.turn)
-          (told_status t.answer h 201 t.reaches status)
-      | inr lost ↦ absurd (None≢Some (sym lost.1))
-    ]
-closed_file p log s ask None new sound up close status comes = absurd status
+closed_file p log s ask heard new h1 h2 h3 h4 =
+    search (rules, arith, IsUpload, own_close, close_leaves_file, told_status, None≢Some)
 
 -- a look for the blob that is answered 200
 pub looked_pair : (p : Push) (log : List Attempt) (s : State) (ask : Ask) (heard : Option Heard) (new : State)
     → IsSoundAsk p log ask → IsHead ask → HeardStatus heard 200 → ComesTo s ask heard new
     → IsTrue (holds new p.name p.digest)
-looked_pair p log s ask (Some h) new sound is_head status comes =
-    elim comes [
-      | inl t ↦
-          head_finds_pair p s t.now t.secret t.answer new
-          (subst (λ a. Turn s a t.secret t.now t.answer new) (own_head p log ask sound is_head) t.turn)
-          (told_status t.answer h 200 t.reaches status)
-      | inr lost ↦ absurd (None≢Some (sym lost.1))
-    ]
-looked_pair p log s ask None new sound is_head status comes = absurd status
+looked_pair p log s ask heard new h1 h2 h3 = search (rules, arith, head_finds_pair, own_head, told_status, None≢Some)
 
 -- the requests of a push that end with such a close, or such a look
 file_at_end : Laws → (p : Push) (old new : State) (log : List Attempt) → IsLawful old
@@ -273,15 +234,12 @@ pub pair_at_end : (p : Push) (old new : State) (log : List Attempt) (P : Ask →
     → IsTrue (holds t p.name p.digest))
     → IsSound p log → Leads AskedInRun old log new → LastIsAnswered P status log → IsTrue (holds new p.name p.digest)
 pair_at_end p old new [] P status last sound leads ends = absurd ends
-pair_at_end p old new (e ∷ log) P status last sound leads ends =
-    last log leads.2.met e.ask e.heard new sound.0 ends.0 ends.1 leads.2.comes
+pair_at_end p old new (e ∷ log) P status last sound leads ends = search (rules, arith)
 
 -- the phase in which a push ends well
 ended : (phase : Phase) (end : Result Outcome PushFault) (outcome : Outcome) → IsEnd phase end → end ≡ Ok outcome
     → phase ≡ Done outcome
-ended phase end outcome ends is =
-    let E : Result Outcome PushFault → Type 0 = λ r. IsEnd phase r in
-    subst E is ends
+ended phase end outcome ends is = search (rules, arith)
 
 -- what a push is worth
 pub worth_in_run : Laws → PushPromiseInRuns

@@ -1,4 +1,4 @@
-use Rattle.std.proofs.Common.{refl}
+use Rattle.std.proofs.Common.{refl, arith, rules}
 use Rattle.upload_push.proofs.Underway.{started, moved, fewer, ended, unasked, sent, within_file, step_says}
 use Rattle.upload_push.specs.Slices.{push_under, IsLawfulPush}
 use Rattle.upload_push.proofs.pushing.push_under.Goals as goal
@@ -7,8 +7,7 @@ pub asks-init : goal.asks-init
 asks-init g c = started _ _ _ _ _ _ c.in-Ok.ensures refl c.new-pusher.ensures
 
 pub returns-in-Done : goal.returns-in-Done
-returns-in-Done g c =
-    ended _ _ _ _ _ _ c.asks.invariant (step_says c.asks.pusher.plan c.asks.pusher.stand.phase _ c.in-Done.ensures.step)
+returns-in-Done g c = search (rules, arith, ended, step_says)
 
 pub ask_once-requires : goal.ask_once-requires
 ask_once-requires g c = within_file _ _ _ _ _ _ c.asks.invariant c.in-Ask.ensures.within
@@ -23,7 +22,4 @@ asks-smaller g c =
     fewer _ _ _ _ _ _ _ c.in-Ok-ask_once.heard lawful c.asks.invariant c.in-Ask.ensures.step c.heard.ensures
 
 pub asks-preserved : goal.asks-preserved
-asks-preserved g c =
-    moved _ _ _ _ _ _ _ _ c.in-Ok-ask_once.heard c.asks.invariant c.in-Ask.ensures.step
-    (sent g.T.Transport.asked (push_under c.args.digest c.args.name.now c.args.file.now c.args.chunk c.args.tries) _ _
-    c.args.digest c.in-Ask.ask c.in-Ok-ask_once.heard refl c.in-Ok-ask_once.ensures.asked) c.heard.ensures
+asks-preserved g c = search (rules, arith, moved, sent)

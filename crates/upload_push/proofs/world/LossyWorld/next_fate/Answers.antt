@@ -1,6 +1,5 @@
-use Rattle.std.proofs.Common.{◌≡◌, sym, ◌∙◌, ap, Some}
+use Rattle.std.proofs.Common.{◌∙◌, ap, Some, arith, rules}
 use Rattle.upload_push.specs.declared.world.Event.{Event}
-use Rattle.std.specs.Prelude.{length}
 use Rattle.upload_push.proofs.Events.{nothing_left, first_left, all_left, other_in_front, nothing_in_front}
 use Rattle.upload_push.proofs.world.LossyWorld.next_fate.Goals as goal
 
@@ -11,9 +10,4 @@ loop-event-preserved-in-Other c = λ ask heard new later.
     (c.in-Some.is ∙ ap (λ (e : Event). Some e) c.in-Other.is)) c.serve.ensures ask heard new later)
 
 pub returns : goal.returns
-returns c = λ ask heard new met.
-    let none : length c.next.new.self.rest.items ≡ 0 =
-    sym c.next.new.self.rest.ok.0 ∙ (nothing_left c.loop-event.self-inside.events c.next.new.self c.next.result
-    c.next.ensures.cases c.in_default.is) in
-    c.loop-event.invariant ask heard new
-    (nothing_in_front _ _ _ _ _ (all_left _ _ _ c.next.ensures.items c.in_default.is none) none ask heard new met)
+returns c = search (rules, arith, nothing_left, nothing_in_front, all_left)
