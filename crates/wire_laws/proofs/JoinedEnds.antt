@@ -1,5 +1,5 @@
 -- What a client asked and heard over a connection is what a worker read and answered on it.
-use Rattle.std.proofs.Common.{◌≡◌, ◌≢◌, ℕ, ◌≤◌, Bool, true, false, List, [], ◌∷◌, ◌++◌, length, map, refl, sym, ap}
+use Rattle.std.proofs.Common.{◌≡◌, ℕ, ◌≤◌, Bool, true, false, List, [], ◌∷◌, ◌++◌, length, map, refl, sym, ap}
 use Rattle.std.proofs.Common.{subst, ◌∙◌, arith, append-nil, append_assoc, length-append, inl, inr, Option, Some, None}
 use Rattle.std.proofs.Common.{Ok, Err, nat_lt, rules}
 use Rattle.std.specs.Prelude.{Result, ⊤, is_err, not, ◌&&◌, ◌==◌, if◌then◌else◌}
@@ -257,13 +257,7 @@ record Grows (old new : WireState) : Type 0 where
 
 grows_none : (old new : WireState) → new.writer ≡ old.writer → new.reader ≡ old.reader
     → new.host ≡ old.host → Grows old new
-grows_none old new w r h = record {
-  written = [];
-  read = [];
-  taken = ap (λ x. x.taken) w ∙ sym (append-nil old.writer.taken);
-  given = ap (λ x. x.input.source.given) r ∙ sym (append-nil old.reader.input.source.given);
-  host = h;
-}
+grows_none old new w r h = grind (arith, append-nil old.writer.taken, append-nil old.reader.input.source.given)
 
 grows_twice : (old mid new : WireState) → Grows old mid → Grows mid new → Grows old new
 grows_twice old mid new a b = search (rules, arith, append_assoc)
@@ -311,10 +305,7 @@ stays_closed old new (x ∷ xs) closed turn = search (rules, arith, stays_closed
 none_heard : (reply : Result Heard HeardFault) (head_only : Bool) (old new : AnswerReaderState)
     (r : ReadsReply head_only old reply new) → old.input.held ≡ [] → r.read.given ≡ []
     → (result_ok reply ≡ None) × (refusal_in reply ≡ None)
-none_heard (Ok what) head_only old new r held none =
-    absurd (no_empty_reply head_only (old.input.held ++ r.read.given) new.input what new.keep r.read.found
-    (ap (λ x. x ++ r.read.given) held ∙ none))
-none_heard (Err fault) head_only old new r held none = (refl, refl)
+none_heard reply head_only old new r h = search (rules, arith, no_empty_reply)
 
 nothing_heard : (written : Result ⊤ WriteFault) (body head_only : Bool) (old new : WireState) (told : Option Heard)
     (h : HearsBehind (awaited written body) head_only old told new) → old.reader.input.held ≡ []
@@ -426,9 +417,7 @@ module _ (y : WireExchange) (keep : Bool) (ask : Ask) (audible : IsAudible y) (s
       → AnswerSays y.answer told × (new.broken ≡ false → new.reader.input.held ++ later ≡ replied)
   unfolding read_front
   reply_says (Ok u) body told h e = search (rules, arith, one_reply)
-  reply_says (Err fault) true told h e =
-      let one = one_reply h.0 h.1 e in
-      (subst (AnswerSays y.answer) (sym h.2) one.1, λ whole. absurd (true≢false (sym h.3 ∙ whole)))
+  reply_says (Err fault) true told h e = grind (arith, one_reply h.0 h.1 e)
   reply_says (Err fault) false told h e = (inl h.0, λ whole. absurd (true≢false (sym h.2 ∙ whole)))
 
 sound : (w : WireState) → stays_open w ≡ true → w.broken ≡ false
@@ -439,9 +428,7 @@ closed_by_fault w broken = ap (λ b. not b && (w.reader.keep && (length w.reader
 
 err_breaks : (written : Result ⊤ WriteFault) (body head_only : Bool) (old new : WireState) (told : Option Heard)
     → HearsBehind (awaited written body) head_only old told new → is_err written ≡ true → new.broken ≡ true
-err_breaks (Ok u) body head_only old new told h e = absurd (true≢false (sym e))
-err_breaks (Err fault) true head_only old new told h e = h.3
-err_breaks (Err fault) false head_only old new told h e = h.2
+err_breaks written body head_only old new told h = search (rules, arith, true≢false)
 
 -- what the worker read from here on begins what the client wrote
 next_text : (read : List ℕ) (x : TransportCall) (xs : List TransportCall) (old new : WireState)

@@ -1,4 +1,5 @@
 -- No text that an ask begins with is refused as bad.
+use Rattle.std.proofs.lemmas.Grind.{common_steps}
 use Rattle.std.proofs.Common.{◌≡◌, ℕ, ◌+◌, ◌≤◌, List, ◌∷◌, ◌++◌, refl, sym, ap, subst, ◌∙◌, arith, append_assoc}
 use Rattle.std.proofs.Common.{inl, inr, Ok, Err, rules}
 use Rattle.httparse.specs.Grammar.{RequestHead, print_request}
@@ -43,20 +44,8 @@ body_longer (Chunked most) text more why (inr broken) = inr (
 bad_longer : (max : ℕ) (text more : List ℕ) (why : Bad) → IsBad max text why → IsBad max (text ++ more) why
 bad_longer max text more why (inl x) = search (rules, arith, append_assoc)
 bad_longer max text more why (inr (inl x)) = search (rules, arith, append_assoc)
-bad_longer max text more why (inr (inr (inl x))) = inr (inr (inl (record {
-  head = x.head;
-  rest = x.rest ++ more;
-  reads = ReadsHead-more more refl x.reads;
-  refused = x.refused;
-})))
-bad_longer max text more why (inr (inr (inr x))) = inr (inr (inr (record {
-  head = x.head;
-  rest = x.rest ++ more;
-  reads = ReadsHead-more more refl x.reads;
-  framing = x.framing;
-  framed = x.framed;
-  refused = body_longer x.framing x.rest more why x.refused;
-})))
+bad_longer max text more why (inr (inr (inl x))) = grind (arith, common_steps, ReadsHead-more)
+bad_longer max text more why (inr (inr (inr x))) = grind (arith, common_steps, ReadsHead-more, body_longer)
 
 -- ---- what begins with a request of few lines isn't bad
 
@@ -77,9 +66,7 @@ same_head text h k rest more a b =
 no_bad_body : (framing : Framing) (text body more : List ℕ) (why : Bad) → IsBodyText framing text body
     → IsBadBody framing (text ++ more) why → ⊥
 no_bad_body framing text body more why is bad =
-    cc
-    (bodies_unambiguous framing (text ++ more) (whole body more) (refused why)
-    (record { message = text; split = refl; written = is }) bad)
+    cc (bodies_unambiguous framing (text ++ more) (whole body more) (refused why) (record { message = text; split = refl; written = is }) bad)
 
 not_bad : (max : ℕ) (message behind : List ℕ) (ask : Ask) (style : Style) (h : RequestHead) (rest : List ℕ)
     → IsRequest max message ask style → ReadsHead requests message h rest

@@ -105,14 +105,7 @@ pub few_bytes : (fields : Fields) → All IsShortField fields
     → length (flat_map print_field fields) ≤ 504 * length fields
 few_bytes [] h = omega arith
 few_bytes ((name, value) ∷ fields) h =
-    search (
-      rules,
-      arith,
-      All-head,
-      All-tail,
-      length-append,
-      few_bytes fields (All-tail IsShortField (name, value) fields h),
-    )
+    grind (arith, All-head, All-tail, length-append, few_bytes fields (All-tail IsShortField (name, value) fields h))
 
 not_feed : (b : ℕ) → b ≢ 10 → (b == 10) ≡ false
 not_feed b h = grind (arith, nat_tests)
@@ -186,13 +179,10 @@ fields_are status fields h = values_kept fields (all_plain fields h)
 head_short : (status : Status) (fields : Fields) → AreWritten fields
     → length (print_response (head_of status fields)) ≤ max_head
 head_short status fields h =
-    let few = h.few in
-    let line = (is_line status).short in
-    omega (
+    grind (
       arith,
-      few,
-      line,
-      ap length (printed status fields),
+      is_line status,
+      printed status fields,
       few_bytes fields h.short,
       length-append (status_line status) (flat_map print_field fields ++ crlf_bytes),
       length-append (flat_map print_field fields) crlf_bytes,
@@ -201,14 +191,12 @@ head_short status fields h =
 pub few_lines : (status : Status) (fields : Fields) → AreWritten fields
     → line_feeds (print_response (head_of status fields)) ≤ max_fields + 2
 few_lines status fields h =
-    let few = h.few in
-    let line = (is_line status).one in
-    omega (
+    grind (
       arith,
-      few,
-      line,
-      ap line_feeds (printed status fields),
+      is_line status,
+      printed status fields,
       feeds fields (all_plain fields h),
+      all_plain fields h,
       line_feeds-append (status_line status) (flat_map print_field fields ++ crlf_bytes),
       line_feeds-append (flat_map print_field fields) crlf_bytes,
     )

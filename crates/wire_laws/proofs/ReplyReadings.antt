@@ -1,5 +1,5 @@
 -- What a reader of replies gives if a text is read in one way.
-use Rattle.std.proofs.Common.{◌≡◌, ◌≢◌, ℕ, Bool, List, refl, ◌∙◌, sym, subst, Ok, Err}
+use Rattle.std.proofs.Common.{◌≡◌, ◌≢◌, ℕ, Bool, List, ◌∙◌, sym, subst, Ok, Err, arith, rules}
 use Rattle.std.specs.Prelude.{Result, ⊤}
 use Rattle.httparse.specs.Grammar.{ResponseHead, status_code}
 use Rattle.http_wire.specs.ResponseBody.{response_framing_of}
@@ -28,36 +28,20 @@ IsReading too_large = ⊤
 IsReading cut = ⊥
 
 pub not_refused : (parse : ReplyParse) → IsReading parse → parse ≢ refused
-not_refused (heard what goes_on rest) h = λ e. absurd (cc e)
-not_refused refused h = absurd h
-not_refused unreadable h = absurd h
-not_refused too_large h = λ e. absurd (cc e)
-not_refused cut h = absurd h
+not_refused parse = search (rules, arith)
 
 -- no other parse is one
 pub no_reading : {A : Type 0} (parse : ReplyParse) → IsReading parse → (other : ReplyParse) → other ≢ too_large
     → ((what : Heard) (goes_on : Bool) (rest : List ℕ) → other ≢ heard what goes_on rest) → other ≡ parse → A
-no_reading (heard what goes_on rest) h other large whole e = absurd (whole what goes_on rest e)
-no_reading refused h other large whole e = absurd h
-no_reading unreadable h other large whole e = absurd h
-no_reading too_large h other large whole e = absurd (large e)
-no_reading cut h other large whole e = absurd h
+no_reading parse h other large whole = search (rules, arith)
 
 pub heard_gives : (parse : ReplyParse) → IsReading parse → (what : Heard) (keep : Bool) (left : List ℕ)
     → heard what keep left ≡ parse → ReaderGives parse left (Ok what) keep
-heard_gives (heard other goes_on rest) h what keep left e = (cc, cc, cc)
-heard_gives refused h what keep left e = absurd h
-heard_gives unreadable h what keep left e = absurd h
-heard_gives too_large h what keep left e = absurd (cc e)
-heard_gives cut h what keep left e = absurd h
+heard_gives parse h what keep left = search (rules, arith)
 
 pub large_gives : (parse : ReplyParse) (left : List ℕ) (keep : Bool) → too_large ≡ parse
     → ReaderGives parse left (Err Reply.TooLarge) keep
-large_gives (heard what goes_on rest) left keep e = absurd (cc e)
-large_gives refused left keep e = absurd (cc e)
-large_gives unreadable left keep e = absurd (cc e)
-large_gives too_large left keep e = refl
-large_gives cut left keep e = absurd (cc e)
+large_gives parse left keep = search (rules, arith)
 
 -- how far the body goes behind what the text begins with
 abbrev FramedAs : Bool → Framed → HeadParse responses → Type 0

@@ -5,7 +5,7 @@ use Rattle.std.specs.Prelude.{if◌then◌else◌}
 use Rattle.upload_names.specs.Digest.{Digest}
 use Rattle.upload_names.specs.NamePass.{is_name}
 use Rattle.upload_service.specs.Machine.{AreLawful, IsLawful, Outcome, Replies, State, Turn, answer_of}
-use Rattle.upload_service.specs.UploadView.{Act, Sends, AsksOffset, Closes}
+use Rattle.upload_service.specs.UploadView.{Act}
 use Rattle.upload_service.specs.declared.ask.Ask.{Ask}
 use Rattle.upload_service.specs.declared.ask.Ask.TheVariants as asks
 use Rattle.upload_service.specs.declared.answer.Answer.{Answer}
@@ -33,9 +33,7 @@ handed_out name digest false blob h sized = ((h.1, sized, refl), tt)
 
 -- the name in a request to a session
 name_of_act : (name at : List ℕ) (act : Act) → HasLawfulParts (session_ask name at act) → IsTrue (is_name name)
-name_of_act name at (Sends range body) h = h.0
-name_of_act name at AsksOffset h = h.0
-name_of_act name at (Closes range digest body) h = h.0
+name_of_act name at act = search (rules, arith)
 
 module _ (s : State) (lawful : IsLawful s) (limits : AreLawful s.limits) (secret : List ℕ) (now : ℕ) where
   small : (name at : List ℕ) (found : Found s now name at) → length found.session.received ≤ most_told

@@ -63,15 +63,14 @@ is_numeral n h = record { filled = decimal_nonempty n h; digits = all_digits n h
 
 range_read : (range : Span) → IsSpan range → range_of (range_text range) ≡ Some range
 range_read range h =
-    range_of-spelled (range_text range) range (record {
-      first = decimal range.first;
-      last = decimal range.last;
-      is_first = is_numeral range.first (omega (arith, h.0));
-      is_last = is_numeral range.last (omega (arith, h.1));
-      cut = refl;
-      spelled_first = capped_decimal range.first h.0;
-      spelled_last = capped_decimal range.last h.1;
-    })
+    grind (
+      arith,
+      range_of-spelled (range_text range) range (record { first = decimal range.first; last = decimal range.last; is_first = is_numeral range.first (omega (arith, h.0)); is_last = is_numeral range.last (omega (arith, h.1)); cut = refl; spelled_first = capped_decimal range.first h.0; spelled_last = capped_decimal range.last h.1 }),
+      is_numeral range.first (omega (arith, h.0)),
+      is_numeral range.last (omega (arith, h.1)),
+      capped_decimal range.first h.0,
+      capped_decimal range.last h.1,
+    )
 
 range_graphic : (range : Span) → IsSpan range → AllPass is_ascii_graphic (range_text range)
 range_graphic range h =

@@ -1,5 +1,5 @@
 -- The heads that a client writes to a host that isn't too long keep the limit of heads.
-use Rattle.std.proofs.Common.{◌≡◌, ℕ, ◌<◌, ◌≤◌, true, false, codes, List, [], ◌++◌, length, arith, lit≤}
+use Rattle.std.proofs.Common.{◌≡◌, ℕ, ◌<◌, ◌≤◌, true, false, codes, List, ◌++◌, length, arith, lit≤, rules}
 use Rattle.std.proofs.Common.{IfSome, Option, Some, None, length-append}
 use Rattle.std.specs.Prelude.{decimal, flat_map, ◌^◌}
 use Rattle.std.proofs.lemmas.Fmt.{length-decimal-le}
@@ -12,12 +12,11 @@ use Rattle.upload_service.specs.declared.ask.Ask.{Ask}
 use Rattle.upload_service.specs.declared.ask.Ask.TheVariants.{Base, Has, Opening, Single, Mount, Chunk, Status, Close}
 use Rattle.upload_service.specs.declared.ask.Ask.TheVariants.{Refused}
 use Rattle.upload_service.specs.declared.ask.Extent.{Extent}
-use Rattle.upload_service.specs.declared.ask.Extent.TheVariants.{Absent, Bad, Given}
 use Rattle.upload_texts.specs.Paths.{blob_path, upload_path}
 use Rattle.http_wire.specs.Fronts.{max_head}
 use Rattle.http_wire.specs.HeadText.{HeadField, print_field}
 use Rattle.upload_client.specs.AskText.{Message, ask_body_fields, content_range_fields, digest_or_nothing, digest_query}
-use Rattle.upload_client.specs.AskText.{host_text, message_of, query_text, range_text, request_line, section_text}
+use Rattle.upload_client.specs.AskText.{host_text, message_of, query_text, request_line, section_text}
 use Rattle.upload_client.specs.AskText.{target_of}
 use Rattle.wire_laws.specs.WrittenAsks.{HasLawfulParts, HasSpan, body_text}
 use Rattle.wire_laws.specs.WrittenExchanges.{AsksMayBeAsked, longest_host}
@@ -36,10 +35,6 @@ short_head : (m : Message) (host : List ℕ) → IsShort m → length host ≤ l
 short_head m host s h =
     omega (
       arith,
-      s.method,
-      s.path,
-      s.query,
-      s.fields,
       length-append (request_line m) (host_text host ++ section_text m.fields),
       length-append m.method (codes " " ++ target_of m),
       length-append m.path (query_text m.query),
@@ -51,8 +46,7 @@ short_head m host s h =
 -- ---- paths and queries
 
 to_uploads : (name tail : List ℕ) → is_name name ≡ true → length tail ≤ 36 → length (upload_path name tail) ≤ 420
-to_uploads name tail n short =
-    omega (arith, name_length name n, length-append name (codes "/blobs/uploads/" ++ tail))
+to_uploads name tail n short = omega (arith, name_length name n, length-append name (codes "/blobs/uploads/" ++ tail))
 
 to_upload : (name at : List ℕ) → is_name name ≡ true → length (upload_path name (reference_text at)) ≤ 420
 to_upload name at n = to_uploads name (reference_text at) n (omega (arith, length-reference_text at))
@@ -97,88 +91,42 @@ body_fields body small =
       arith,
       number_length (length body) small,
       length-append (decimal (length body)) crlf_bytes,
-      length-append (decimal (length body) ++ crlf_bytes) [],
+      length-append (decimal (length body) ++ crlf_bytes),
     )
 
 range_fields : (range : Extent) → HasSpan range → (fields : List HeadField)
     → length (flat_map print_field fields) ≤ 100
     → length (flat_map print_field (content_range_fields range ++ fields)) ≤ 300
-range_fields Absent span fields short = omega (arith, short)
-range_fields Bad span fields short = omega (arith, short)
-range_fields (Given range) span fields short =
-    omega (
-      arith,
-      short,
-      number_length range.first (omega (arith, span.0)),
-      number_length range.last (omega (arith, span.1)),
-      length-append (decimal range.first) (codes "-" ++ decimal range.last),
-      length-append (range_text range) crlf_bytes,
-      length-append (print_field (codes "Content-Range", range_text range)) (flat_map print_field fields),
-    )
+range_fields range h1 fields h2 = search (rules, arith, number_length, length-append)
 
 -- ---- the asks
 
 short_message : (ask : Ask) → HasLawfulParts ask → length (body_text ask) < 2 ^ 64 → IsShort (message_of ask)
-short_message Base parts small =
-    record { method = lit≤ tt; path = lit≤ tt; query = lit≤ tt; fields = lit≤ tt }
-short_message (Has name digest true) parts small = record {
-  method = lit≤ tt;
-  path = to_blob name digest parts.0 parts.1;
-  query = lit≤ tt;
-  fields = lit≤ tt;
-}
-short_message (Has name digest false) parts small = record {
-  method = lit≤ tt;
-  path = to_blob name digest parts.0 parts.1;
-  query = lit≤ tt;
-  fields = lit≤ tt;
-}
-short_message (Opening name) parts small = record {
-  method = lit≤ tt;
-  path = to_uploads name [] parts (lit≤ tt);
-  query = lit≤ tt;
-  fields = lit≤ tt;
-}
-short_message (Single name digest body) parts small = record {
-  method = lit≤ tt;
-  path = to_uploads name [] parts.0 (lit≤ tt);
-  query = short_or_nothing digest parts.1;
-  fields = omega (arith, body_fields body small);
-}
-short_message (Mount name digest source) parts small = record {
-  method = lit≤ tt;
-  path = to_uploads name [] parts.0 (lit≤ tt);
-  query = mount_query digest source parts.1 parts.2;
-  fields = lit≤ tt;
-}
-short_message (Chunk name at range body) parts small = record {
-  method = lit≤ tt;
-  path = to_upload name at parts.0;
-  query = lit≤ tt;
-  fields = range_fields range parts.2 (ask_body_fields body) (body_fields body small);
-}
-short_message (Status name at) parts small = record {
-  method = lit≤ tt;
-  path = to_upload name at parts.0;
-  query = lit≤ tt;
-  fields = lit≤ tt;
-}
-short_message (Close name at range digest body) parts small = record {
-  method = lit≤ tt;
-  path = to_upload name at parts.0;
-  query = short_query digest parts.3;
-  fields = range_fields range parts.2 (ask_body_fields body) (body_fields body small);
-}
-short_message (Refused refusal) parts small =
-    record { method = lit≤ tt; path = lit≤ tt; query = lit≤ tt; fields = lit≤ tt }
+short_message Base parts small = omega arith
+short_message (Has name digest true) parts small = omega (arith, to_blob name digest parts.0 parts.1)
+short_message (Has name digest false) parts small = omega (arith, to_blob name digest parts.0 parts.1)
+short_message (Opening name) parts small = omega (arith, to_uploads name)
+short_message (Single name digest body) parts small =
+    omega (arith, to_uploads name, short_or_nothing digest parts.1, body_fields body small)
+short_message (Mount name digest source) parts small =
+    omega (arith, to_uploads name, mount_query digest source parts.1 parts.2)
+short_message (Chunk name at range body) parts small =
+    omega (
+      arith,
+      to_upload name,
+      range_fields range parts.2 (ask_body_fields body) (body_fields body small),
+      body_fields body small,
+    )
+short_message (Status name at) parts small = omega (arith, to_upload name)
+short_message (Close name at range digest body) parts small =
+    omega (
+      arith,
+      to_upload name,
+      short_query digest parts.3,
+      range_fields range parts.2 (ask_body_fields body) (body_fields body small),
+      body_fields body small,
+    )
+short_message (Refused refusal) parts small = omega arith
 
 pub may_be_asked : AsksMayBeAsked
-may_be_asked max_body ask host limit writable to_host = record {
-  limit = limit;
-  writable = writable.can;
-  parts = writable.parts;
-  to_host = to_host.bytes;
-  short = short_head (message_of ask) host (short_message ask writable.parts (omega (arith, writable.fits, limit)))
-      to_host.short;
-  fits = writable.fits;
-}
+may_be_asked max_body ask host limit writable to_host = search (rules, arith, short_head, short_message)

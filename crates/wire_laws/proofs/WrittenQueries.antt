@@ -1,14 +1,13 @@
 -- A written query gives its parameters back.
-use Rattle.std.proofs.Common.{ap, ◌≡◌, ◌≢◌, ℕ, true, codes, List, [], ◌∷◌, ◌++◌, refl, arith, ◌∙◌, Some}
+use Rattle.std.proofs.lemmas.Grind.{common_steps}
+use Rattle.std.proofs.Common.{ap, ◌≡◌, ◌≢◌, ℕ, true, codes, List, [], ◌∷◌, ◌++◌, refl, arith, Some}
 use Rattle.std.proofs.Common.{None, length-append, rules}
-use Rattle.std.proofs.lemmas.Bool.Decides.{nat_tests}
 use Rattle.std.proofs.lemmas.List.Elements.{All-append, All-cons}
 use Rattle.std.proofs.lemmas.List.Sums.{AllPass-from_list_all}
 use Rattle.std.proofs.lemmas.Str.{IsUtf8-from_ascii, utf8_lossy-IsUtf8}
 use Rattle.std.proofs.lemmas.Str.Ascii.{IsAscii-from_all}
 use Rattle.std.specs.List.{list_all}
-use Rattle.form_urlencoded.specs.Form.{raw_pairs, decode, split_once, split_pair}
-use Rattle.form_urlencoded.specs.Form as form
+use Rattle.form_urlencoded.specs.Form.{raw_pairs, split_once, split_pair}
 use Rattle.form_urlencoded.proofs.FormLemmas.{raw_pairs-nil, raw_pairs_first, split_once_before_at, split_once_after_at}
 use Rattle.form_urlencoded.proofs.FormLemmas.{split_once_before_none, split_once_after_none, decode_plain}
 use Rattle.http_wire.specs.Query.{parameter, first_value, decoded}
@@ -19,16 +18,18 @@ use Rattle.upload_texts.proofs.PlainTexts.{ascii_bytes}
 -- a plain text decodes to itself
 read_plain : (text : List ℕ) → IsPlain text → decoded text ≡ text
 read_plain text h =
-    let same : decode text ≡ text =
-    decode_plain text (AllPass-each is_plain_byte form.IsPlain text (λ b p. (no_plus b p, no_percent b p)) h) in
-    rw same
-    (utf8_lossy-IsUtf8 text (IsUtf8-from_ascii text (IsAscii-from_all text (ascii_bytes text (IsTarget-plain text h)))))
-  where
-    no_plus : (b : ℕ) → is_plain_byte b ≡ true → b ≢ 43
-    no_plus b h = λ e. absurd (grind (arith, nat_tests))
-
-    no_percent : (b : ℕ) → is_plain_byte b ≡ true → b ≢ 37
-    no_percent b h = λ e. absurd (grind (arith, nat_tests))
+    grind (
+      arith,
+      common_steps,
+      decode_plain,
+      AllPass-each,
+      is_plain_byte,
+      utf8_lossy-IsUtf8,
+      IsUtf8-from_ascii,
+      IsAscii-from_all,
+      ascii_bytes,
+      IsTarget-plain,
+    )
 
 -- ---- <name>=<value>
 
@@ -47,16 +48,7 @@ first_pair name value text rest n before after = search (rules, arith, length-ap
 
 one_pair : (name value : List ℕ) → IsPlain name → IsPlain value → raw_pairs (name ++ 61 ∷ value) ≡ (name, value) ∷ []
 one_pair name value n v =
-    search (
-      rules,
-      arith,
-      Lacks,
-      pair_lacks_and,
-      first_pair,
-      split_once_before_none,
-      split_once_after_none,
-      raw_pairs-nil,
-    )
+    grind (arith, Lacks, pair_lacks_and, first_pair, split_once_before_none, split_once_after_none, raw_pairs-nil)
 
 -- <name>=<value>&<more>
 more_pairs : (name value more : List ℕ) → IsPlain name → IsPlain value
@@ -78,11 +70,13 @@ pub digest_parameter : (value : List ℕ) → IsPlain value
     → (parameter (codes "mount") (codes "digest=" ++ value) ≡ None)
     × (parameter (codes "digest") (codes "digest=" ++ value) ≡ Some value)
 digest_parameter value v =
-    let digest : IsPlain (codes "digest") = literal (codes "digest") refl in
-    let pairs : raw_pairs (codes "digest=" ++ value) ≡ (codes "digest", value) ∷ [] =
-    one_pair (codes "digest") value digest v in (
-      rw (pairs, read_plain (codes "digest") digest) refl,
-      rw (pairs, read_plain (codes "digest") digest, read_plain value v) refl,
+    grind (
+      arith,
+      IsPlain (codes "digest"),
+      literal (codes "digest") refl,
+      one_pair (codes "digest") value,
+      read_plain (codes "digest"),
+      read_plain value v,
     )
 
 pub mount_parameters : (digest source : List ℕ) → IsPlain digest → IsPlain source
@@ -95,14 +89,18 @@ pub mount_parameter : (digest source : List ℕ) → IsPlain digest → IsPlain 
     → (parameter (codes "mount") (codes "mount=" ++ (digest ++ (codes "&from=" ++ source))) ≡ Some digest)
     × (parameter (codes "from") (codes "mount=" ++ (digest ++ (codes "&from=" ++ source))) ≡ Some source)
 mount_parameter digest source d s =
-    let mount : IsPlain (codes "mount") = literal (codes "mount") refl in
-    let from : IsPlain (codes "from") = literal (codes "from") refl in
-    let pairs : raw_pairs (codes "mount=" ++ (digest ++ (codes "&from=" ++ source)))
-    ≡ (codes "mount", digest) ∷ (codes "from", source) ∷ [] =
-    more_pairs (codes "mount") digest (codes "from=" ++ source) mount d
-    ∙ rw (one_pair (codes "from") source from s) refl in (
-      rw (pairs, read_plain (codes "mount") mount, read_plain digest d) refl,
-      rw (pairs, read_plain (codes "mount") mount, read_plain (codes "from") from, read_plain source s) refl,
+    grind (
+      arith,
+      IsPlain (codes "mount"),
+      literal (codes "mount") refl,
+      IsPlain (codes "from"),
+      literal (codes "from") refl,
+      more_pairs (codes "mount") digest (codes "from=" ++ source),
+      one_pair (codes "from") source,
+      read_plain (codes "mount"),
+      read_plain digest d,
+      read_plain (codes "from"),
+      read_plain source s,
     )
 
 -- no query has no parameters

@@ -1,9 +1,9 @@
 -- The text of each reply is read as what its answer says.
-use Rattle.std.proofs.Common.{◌≡◌, ℕ, ◌<◌, ◌≤◌, ◌^◌, Bool, true, false, List, [], ◌∷◌, ◌++◌, All, length, refl, arith}
+use Rattle.std.proofs.lemmas.Grind.{common_steps}
+use Rattle.std.proofs.Common.{◌≡◌, ℕ, ◌<◌, ◌≤◌, ◌^◌, Bool, true, false, List, [], ◌∷◌, ◌++◌, length, refl, arith}
 use Rattle.std.proofs.Common.{◌∙◌, sym, subst, Option, Some, None, Ok, Err, inl, inr, append_assoc, lt-ltb, le-ltb}
 use Rattle.std.proofs.Common.{nat_lt, rules}
 use Rattle.std.proofs.lemmas.Bool.{cases_lt}
-use Rattle.std.proofs.lemmas.Bool.Decides.{nat_tests}
 use Rattle.std.proofs.lemmas.List.Sums.{AllPass-from_list_all}
 use Rattle.std.proofs.lemmas.Str.{IsUtf8-from_ascii, is_utf8-from_IsUtf8}
 use Rattle.std.proofs.lemmas.Str.Ascii.{IsAscii-from_all}
@@ -66,15 +66,17 @@ large_framed n h small = search (rules, arith, number_is, lt-ltb)
 -- the code of a text
 code_by : (body : List ℕ) (code : Option (List ℕ)) → list_all (λ b. nat_lt b 128) body ≡ true
     → code ≡ option_and_then code_in (read body) → code ≡ code_of body
-code_by body code small e = rw (is_utf8-from_IsUtf8 body (IsUtf8-from_ascii body (IsAscii-from_all body ascii))) e
-  where
-    under : (b : ℕ) → nat_lt b 128 ≡ true → b < 128
-    under b h = grind (arith, nat_tests)
-
-    ascii : All (λ b. b < 128) body
-    ascii =
-        AllPass-each (λ b. nat_lt b 128) (λ b. b < 128) body under
-        (AllPass-from_list_all (λ b. nat_lt b 128) body small)
+code_by body code small e =
+    grind (
+      arith,
+      common_steps,
+      is_utf8-from_IsUtf8,
+      IsUtf8-from_ascii,
+      IsAscii-from_all,
+      nat_lt,
+      AllPass-each,
+      AllPass-from_list_all,
+    )
 
 no_code : None ≡ code_of []
 unfolding serde_json_on_literals

@@ -80,10 +80,7 @@ token method some h = (grind (arith, nat_tests), AllPass-from_list_all is_token_
 
 method_token : (ask : Ask) → CanBeWritten ask → IsToken (message_of ask).method
 unfolding is_token_byte
-method_token (Has name digest true) can = token (codes "HEAD") refl refl
-method_token (Has name digest false) can = token (codes "GET") refl refl
-method_token (Refused refusal) can = absurd can
-method_token other can = token (message_of other).method refl refl
+method_token ask = search (rules, arith, token)
 
 head_short : {max_body : ℕ} {ask : Ask} {host : List ℕ} → MayBeAsked max_body ask host
     → length (print_request (head_of (message_of ask) host)) ≤ max_head

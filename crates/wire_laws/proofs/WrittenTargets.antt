@@ -25,9 +25,13 @@ use Rattle.upload_texts.proofs.PlainTexts.{IsTarget-parameters, path_bytes, quer
 
 index_at : (c : ℕ) (a b : List ℕ) → Lacks c a → index_of c (a ++ c ∷ b) ≡ length a
 index_at c a b h =
-    index_of_is c (a ++ c ∷ b) (length a) (omega (arith, length-append a (c ∷ b)))
-    (λ k lt. rw (get_or_append_left a (c ∷ b) 0 k lt) (All-get_or (λ x. x ≢ c) a k 0 lt h))
-    (λ lt. get_or-append_seam a c b 0)
+    grind (
+      arith,
+      index_of_is c (a ++ c ∷ b) (length a) (omega (arith, length-append a (c ∷ b))),
+      length-append a (c ∷ b),
+      get_or_append_left a (c ∷ b) 0,
+      get_or-append_seam a c b 0,
+    )
 
 index_none : (c : ℕ) (a : List ℕ) → Lacks c a → index_of c a ≡ length a
 index_none c a h = search (rules, arith, index_of_is, All-get_or)
