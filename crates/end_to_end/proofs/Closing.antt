@@ -1,5 +1,6 @@
 -- The step at which a push that ended Pushed was closed, and what its upload had received by then.
-use Rattle.std.proofs.Common.{◌≡◌, ℕ, List, [], ◌∷◌, ◌++◌, refl, sym, ap, subst, ◌∙◌, arith, inl, inr, Some, None}
+use Rattle.std.proofs.Common.{rules}
+use Rattle.std.proofs.Common.{◌≡◌, ℕ, List, [], ◌∷◌, ◌++◌, refl, sym, ap, subst, ◌∙◌, arith, Some, None}
 use Rattle.std.specs.FinMap as map
 use Rattle.upload_names.specs.Digest.{Digest}
 use Rattle.upload_service.specs.Headline.{Headline}
@@ -65,11 +66,7 @@ closed_by p (e ∷ log) front sound ends last =
 
 pub status_told : (answer : Answer) (h : Heard) (status : ℕ) → IsHeardOf answer (Some h) → h.status ≡ status
     → (reply_heard answer).status ≡ status
-status_told answer h status reaches is =
-    elim reaches [
-      | inl lost ↦ absurd (None≢Some (sym lost))
-      | inr told ↦ sym (ap (λ (x : Heard). x.status) (same_inside told.1)) ∙ is
-    ]
+status_told answer h status reaches is = search (rules, arith, None≢Some, same_inside)
 
 -- no refusal is answered 201
 no_refusal : (refusal : Refusal) → status_number (refusal_status refusal) ≡ 201 → ⊥
@@ -79,9 +76,7 @@ no_refusal other is = omega (arith, is)
 -- nothing but a blob that was stored is answered so
 stored_is : (answer : Answer) → (reply_heard answer).status ≡ 201
     → (name : List ℕ) × (digest : Digest) × (answer ≡ answers.Stored name digest)
-stored_is (answers.Stored name digest) is = (name, digest, refl)
-stored_is (answers.Refused refusal) is = absurd (no_refusal refusal is)
-stored_is other is = absurd (omega (arith, is))
+stored_is answer = search (rules, arith, no_refusal)
 
 -- ---- what the upload had received
 

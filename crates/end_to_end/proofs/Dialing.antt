@@ -1,6 +1,6 @@
 -- The connections of a push that makes them as it needs them.
 use Rattle.std.proofs.Common.{◌≡◌, ℕ, Bool, true, false, List, [], ◌∷◌, ◌++◌, refl, sym, ap, subst, ◌∙◌, append-nil}
-use Rattle.std.proofs.Common.{append_assoc, inl, inr, Option, Some, None}
+use Rattle.std.proofs.Common.{append_assoc, inl, inr, Option, Some, None, arith, rules}
 use Rattle.std.specs.Prelude.{⊤, if◌then◌else◌}
 use Rattle.std.specs.List.{AllByRecursion}
 use Rattle.upload_service.specs.declared.ask.Ask.{Ask}
@@ -40,12 +40,7 @@ ask_of_longer e log ask is =
 module _ (host : List ℕ) (earlier : List Attempt) where
   leg_of_longer : (e : Attempt) (log : List Attempt) (leg : Leg) → IsLegTo host earlier log leg
       → IsLegTo host earlier (e ∷ log) leg
-  leg_of_longer e log (over c) is =
-      record {
-        host_is = is.host_is;
-        own = all_weaker (λ y. ask_of_longer e log y.ask) c.asks is.own;
-        before_it = is.before_it;
-      }
+  leg_of_longer e log (over c) is = search (rules, arith, all_weaker, ask_of_longer)
   leg_of_longer e log (unmet ask) is = tt
 
   -- the connection that is kept is the newest one, as it was left
@@ -141,9 +136,7 @@ module _ (host : List ℕ) (earlier : List Attempt) where
       → Connected log kept → Connects host kept (Some wire) → AsksOverWire wire e.ask e.heard new
       → behind ≡ kept_or None new → Connected (e ∷ log) behind
   over_one e log wire new None behind at made asks is = over_new e log wire new None behind at made asks is
-  over_one e log wire new (Some w) behind at same asks is =
-      over_kept e log wire new behind at.legs at.all at.each
-      (subst (λ v. IsKept (Some v) at.legs) (sym (same_inside same)) at.newest) asks is
+  over_one e log wire new (Some w) behind at same asks is = search (rules, arith, over_kept, same_inside)
 
   one_more : (e : Attempt) (log : List Attempt) (kept behind : Option WireState) → Connected log kept
       → AsksDialed host kept e.ask e.heard behind → Connected (e ∷ log) behind
@@ -180,32 +173,14 @@ module _ (host : List ℕ) (earlier : List Attempt) where
   each_before : (legs : List Leg) → AllByRecursion (IsLegTo host earlier earlier) legs
       → AllByRecursion (IsLegTo host earlier []) (all_before legs)
   each_before [] each = tt
-  each_before (over c ∷ legs) each = (
-    record {
-      host_is = each.0.host_is;
-      own = tt;
-      before_it = all_both (λ x. IsAskOf earlier x.ask) c.before c.asks each.0.before_it each.0.own;
-    },
-    each_before legs each.1,
-  )
+  each_before (over c ∷ legs) each = search (rules, arith, all_both, each_before legs each.1)
   each_before (unmet ask ∷ legs) each = each_before legs each.1
 
   still_kept : (kept : Option WireState) (legs : List Leg) → IsKept kept legs → IsKept kept (all_before legs)
-  still_kept None legs newest = tt
-  still_kept (Some wire) [] newest = absurd newest
-  still_kept (Some wire) (over c ∷ legs) newest = newest
-  still_kept (Some wire) (unmet ask ∷ legs) newest = absurd newest
+  still_kept kept legs h = search (rules, arith)
 
   push_begins : (kept : Option WireState) → Leads (AsksDialed host) None earlier kept → Connected [] kept
-  push_begins kept leads =
-      let none : Connected [] None = record { legs = []; all = refl; each = tt; newest = tt } in
-      let at : Connected earlier kept = connected None kept earlier none leads in
-      record {
-        legs = all_before at.legs;
-        all = none_asked at.legs;
-        each = each_before at.legs at.each;
-        newest = still_kept kept at.legs at.newest;
-      }
+  push_begins kept leads = search (rules, arith, connected, none_asked, each_before, still_kept)
 
 pub have_connections : DialedPushesHaveConnections
 have_connections host earlier log kept last first leads =
@@ -216,10 +191,7 @@ have_connections host earlier log kept last first leads =
 
 of_log : (P : Ask → Type 0) (log : List Attempt) (ask : Ask) → AllByRecursion (λ (e : Attempt). P e.ask) log
     → IsAskOf log ask → P ask
-of_log P log ask all is =
-    subst P is.same
-    (all_second (λ (e : Attempt). P e.ask) is.later (is.at ∷ is.earlier)
-    (subst (AllByRecursion (λ (e : Attempt). P e.ask)) is.split all)).0
+of_log P log ask all is = search (rules, arith, all_second)
 
 pub are_carried : {L : Lending} {S G O : Type 0} (m : Means L S G O) → DialedConnectionsAreCarried m
 are_carried m max_body host earlier log c made none writable short t carries = record {

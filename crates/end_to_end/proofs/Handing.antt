@@ -1,11 +1,11 @@
 -- What a push left is handed out behind the step of its close.
-use Rattle.std.proofs.Common.{◌≡◌, ℕ, ◌≤◌, ◌⊎◌, List, [], ◌∷◌, ◌++◌, length, false, true, sym, ap, subst, ◌∙◌, arith}
-use Rattle.std.proofs.Common.{inl, inr, Option, Some}
+use Rattle.std.proofs.Common.{◌≡◌, ℕ, ◌≤◌, ◌⊎◌, List, [], ◌∷◌, ◌++◌, length, false, sym, ap, subst, ◌∙◌, arith}
+use Rattle.std.proofs.Common.{inl, inr, Some, rules}
 use Rattle.std.specs.Prelude.{IsTrue}
 use Rattle.std.specs.FinMap as map
 use Rattle.std.proofs.lemmas.List.{map-append}
 use Rattle.upload_names.specs.Digest.{HasDigest}
-use Rattle.upload_service.specs.Machine.{Comes, IsLawful, Outcome, State, Turn, blob_reply, holds, outcome}
+use Rattle.upload_service.specs.Machine.{Comes, IsLawful, Outcome, State, Turn, blob_reply, holds}
 use Rattle.upload_service.specs.Machine.Outcome.{Replies}
 use Rattle.upload_service.specs.Run as served
 use Rattle.upload_service.specs.Run.{NeverBefore, NeverFall, Run}
@@ -61,15 +61,10 @@ module _ {L : Lending} {S G O M : Type 0} (m : Means L S G O) (tells : M → ℕ
     (between later : List Step) (get : Step) (split : push.after ≡ between ++ get ∷ later)
     (asked : get.exchange.ask ≡ Has p.name p.digest false) where
   lawful_then : IsLawful push.at
-  lawful_then =
-      lawful_by_run laws given.service (exchanges_of (push.before ++ push.close ∷ [])) push.at lawful push.first
+  lawful_then = search (rules, arith, lawful_by_run)
 
   moments : NeverFall (exchanges_of push.after)
-  moments =
-      never_earlier 0 push.close.exchange.now (exchanges_of push.after) (omega arith)
-      (never_before_back 0 (exchanges_of push.before) (exchanges_of (push.close ∷ push.after))
-      (subst NeverFall (ap exchanges_of push.split
-      ∙ map-append (λ (s : Step). s.exchange) push.before (push.close ∷ push.after)) pool.served.moments)).1
+  moments = search (rules, arith, never_earlier, never_before_back, map-append)
 
   handed_back : (get.exchange.answer ≡ NoMemory) ⊎ HandsBack p push.at between get.exchange.answer
   handed_back =
@@ -102,6 +97,4 @@ module _ {L : Lending} {S G O M : Type 0} (m : Means L S G O) (tells : M → ℕ
 
 pub files_handed_back : {L : Lending} {S G O M : Type 0} (m : Means L S G O) (tells : M → ℕ → M → Type 0) → Laws
     → FilesAreHandedBack m tells
-files_handed_back m tells laws =
-    λ given left pool p lawful push between later get split asked.
-    handed_back m tells laws given left pool p lawful push between later get split asked
+files_handed_back m tells laws = search (rules, arith, handed_back)

@@ -1,6 +1,6 @@
 -- What a client found over a connection to a pool was there at some step.
-use Rattle.std.proofs.Common.{◌≡◌, ℕ, ◌<◌, ◌⊎◌, Bool, true, false, List, [], ◌∷◌, ◌++◌, length, map, filter, refl, sym}
-use Rattle.std.proofs.Common.{ap, subst, ◌∙◌, append_assoc, inl, inr, Some, cond, get_or}
+use Rattle.std.proofs.Common.{◌≡◌, ℕ, ◌<◌, ◌⊎◌, Bool, true, List, [], ◌∷◌, ◌++◌, length, map, filter, refl, sym}
+use Rattle.std.proofs.Common.{ap, subst, ◌∙◌, append_assoc, inl, inr, Some, get_or, arith, rules}
 use Rattle.std.proofs.lemmas.List.{map-append}
 use Rattle.std.proofs.lemmas.Option.{none-some}
 use Rattle.std.specs.Prelude.{◌==◌}
@@ -65,11 +65,7 @@ one_before_map P f (x ∷ xs) (inr one) = inr (one_before_map P f xs one)
 
 one_kept : {A : Type 0} (P : A → Type 0) (test : A → Bool) (xs : List A) → OneOf P (filter test xs) → OneOf P xs
 one_kept P test [] one = absurd one
-one_kept P test (x ∷ xs) one =
-    elim (test x) as (λ b. OneOf P (cond b (x ∷ filter test xs) (filter test xs)) → OneOf P (x ∷ xs)) [
-      | true ↦ λ both. elim both [ inl is ↦ inl is | inr rest ↦ inr (one_kept P test xs rest) ]
-      | false ↦ λ rest. inr (one_kept P test xs rest)
-    ] one
+one_kept P test (x ∷ xs) one = search (rules, arith, one_kept P test xs)
 
 -- the same around it
 record Found (A : Type 0) (P : A → Type 0) (xs : List A) : Type 0 where
@@ -154,9 +150,7 @@ module _ {L : Lending} {S G O M : Type 0} (m : Means L S G O) (tells : M → ℕ
 
   -- each step was answered by a lawful service
   steps_are : AllByRecursion (λ (x : Step). IsAnswered x.exchange.ask x.exchange.answer) pool.steps
-  steps_are =
-      steps_lawful laws given.service pool.steps left.service lawful limits pool.served.run
-      (sizes_of pool.steps pool.typed)
+  steps_are = search (rules, arith, steps_lawful, sizes_of)
 
   answered : AreAnswered (answered_on m max t)
   answered =
@@ -167,10 +161,7 @@ module _ {L : Lending} {S G O M : Type 0} (m : Means L S G O) (tells : M → ℕ
       steps_are)))
 
   is_new : IsUnused m max t
-  is_new =
-      (all_second (IsUnused m max) earlier (t ∷ later)
-      (subst (AllByRecursion (IsUnused m max)) split
-      (all_unused m max unused _ _ _ _ talks part.worked.served))).0
+  is_new = grind (arith, all_second, IsUnused, all_unused)
 
   joined : AreJoined asked (answered_on m max t) (unanswered_on m max t)
   joined =
@@ -239,7 +230,4 @@ module _ {L : Lending} {S G O M : Type 0} (m : Means L S G O) (tells : M → ℕ
 
 pub looks_served : {L : Lending} {S G O M : Type 0} (m : Means L S G O) (tells : M → ℕ → M → Type 0) → Laws
     → LooksAreServed m tells
-looks_served m tells laws =
-    λ given left pool p lawful limits unused seat worker end within earlier later t split c one seen.
-    is_there m tells laws given left pool p lawful limits unused seat worker end within earlier later t split c
-    one seen
+looks_served m tells laws = search (rules, arith, is_there)

@@ -1,6 +1,6 @@
 -- A push that heard all from one worker heard it in the order in which it was served.
 use Rattle.std.proofs.Common.{◌≡◌, ◌≢◌, ℕ, ◌<◌, Bool, true, false, List, [], ◌∷◌, ◌++◌, length, map, refl, sym, ap}
-use Rattle.std.proofs.Common.{subst, ◌∙◌, append-nil, append_assoc, inl, inr, Option, Some, None, cond}
+use Rattle.std.proofs.Common.{subst, ◌∙◌, append-nil, append_assoc, inl, inr, Option, Some, None, cond, arith, rules}
 use Rattle.std.specs.Prelude.{◌==◌, ◌^◌}
 use Rattle.std.specs.List.{AllByRecursion, flat_map}
 use Rattle.std.proofs.lemmas.Bool.{eq-eqb, eqb-false}
@@ -50,9 +50,7 @@ heard_marks ((step, unheard ask) ∷ ms) = heard_marks ms
 
 behind_mark : (k : Mark) (ks ls : List Mark) → heard_of ks ≡ heard_of ls → heard_of (k ∷ ks) ≡ heard_of (k ∷ ls)
 unfolding heard_of
-behind_mark other ks ls same = same
-behind_mark (heard ask what) ks ls same = ap (λ l. (ask, what) ∷ l) same
-behind_mark (unheard ask) ks ls same = same
+behind_mark k ks ls h = search (rules, arith)
 
 none_second : {A : Type 0} (a b : List A) → a ++ b ≡ [] → b ≡ []
 none_second [] b e = e
@@ -62,9 +60,7 @@ none_second (x ∷ a) b e = absurd (cc e)
 
 told_both : (xs ys : List TransportCall) → told_in (xs ++ ys) ≡ told_in xs ++ told_in ys
 told_both [] ys = refl
-told_both (x ∷ xs) ys =
-    ap (λ l. asked_and_told x.ask x.heard ++ l) (told_both xs ys)
-    ∙ sym (append_assoc (asked_and_told x.ask x.heard) (told_in xs) (told_in ys))
+told_both (x ∷ xs) ys = cc (append_assoc (asked_and_told x.ask x.heard) (told_in xs) (told_in ys), told_both xs ys)
 
 mark_told : (ask : Ask) (what : Option Heard) (ks : List Mark)
     → heard_of (mark_of ask what ∷ ks) ≡ asked_and_told ask what ++ heard_of ks
@@ -75,9 +71,7 @@ mark_told ask (Some what) ks = refl
 asks_told : (xs : List TransportCall) → heard_of (map (λ (x : TransportCall). mark_of x.ask x.heard) xs) ≡ told_in xs
 unfolding heard_of
 asks_told [] = refl
-asks_told (x ∷ xs) =
-    mark_told x.ask x.heard (map (λ (y : TransportCall). mark_of y.ask y.heard) xs)
-    ∙ ap (λ l. asked_and_told x.ask x.heard ++ l) (asks_told xs)
+asks_told (x ∷ xs) = simp (mark_told, asks_told xs)
 
 before_told : (xs asks : List TransportCall)
     → heard_of (map (λ (x : TransportCall). other) xs ++ map (λ (x : TransportCall). mark_of x.ask x.heard) asks)
@@ -92,9 +86,7 @@ unheard_one : (x : TransportCall) (k : Mark) (ks : List Mark) → MarksOne x k �
     → heard_of (k ∷ ks) ≡ heard_of ks
 unfolding heard_of
 unheard_one x k ks (inl is) none = ap (λ l. heard_of (l ∷ ks)) is
-unheard_one x k ks (inr is) none =
-    ap (λ l. heard_of (l ∷ ks)) is ∙ mark_told x.ask x.heard ks
-    ∙ ap (λ h. asked_and_told x.ask h ++ heard_of ks) none
+unheard_one x k ks (inr is) none = cc (mark_told x.ask x.heard ks)
 
 none_heard : (xs : List TransportCall) (ks : List Mark) (us : List Ask) → MarksAll xs ks → AreUnanswered xs us
     → heard_of ks ≡ []
@@ -105,7 +97,7 @@ none_heard (x ∷ xs) [] us marked none = absurd marked
 none_heard (x ∷ xs) (k ∷ ks) [] marked none =
     unheard_one x k ks marked.0 none.0 ∙ none_heard xs ks [] marked.1 none.1
 none_heard (x ∷ xs) (k ∷ ks) (u ∷ us) marked none =
-    unheard_one x k ks marked.0 none.1 ∙ none_heard xs ks us marked.1 none.2
+    cc (unheard_one x k ks marked.0 none.1, none_heard xs ks us marked.1 none.2)
 
 none_left : (xs : List TransportCall) (ks : List Mark) (us : List Ask) → MarksAll xs ks → AreUnanswered xs us
     → heard_of (unanswered_marks ks us) ≡ []
@@ -114,7 +106,7 @@ none_left xs ks [] marked none = refl
 none_left [] ks (u ∷ us) marked none = absurd none
 none_left (x ∷ xs) [] (u ∷ us) marked none = absurd marked
 none_left (x ∷ xs) (k ∷ ks) (u ∷ us) marked none =
-    unheard_one x k (unanswered_marks ks us) marked.0 none.1 ∙ none_left xs ks us marked.1 none.2
+    cc (unheard_one x k (unanswered_marks ks us) marked.0 none.1, none_left xs ks us marked.1 none.2)
 
 heard_on : (xs : List TransportCall) (ks : List Mark) (ys : List WireExchange) (us : List Ask) → MarksAll xs ks
     → AreJoined xs ys us → heard_of (marks_on ks ys us) ≡ heard_of ks
@@ -122,7 +114,7 @@ heard_on xs ks [] us marked joined = none_left xs ks us marked joined ∙ sym (n
 heard_on [] ks (y ∷ ys) us marked joined = absurd joined
 heard_on (x ∷ xs) [] (y ∷ ys) us marked joined = absurd marked
 heard_on (x ∷ xs) (k ∷ ks) (y ∷ ys) us marked joined =
-    behind_mark k (marks_on ks ys us) ks (heard_on xs ks ys us marked.1 joined.2)
+    search (rules, arith, behind_mark, heard_on xs ks ys us marked.1 joined.2)
 
 -- ---- what is left of marks behind the steps
 
@@ -138,28 +130,20 @@ unanswered_none (u ∷ us) (unheard ask ∷ ks) fit = unanswered_none us ks fit.
 left_unheard : (ms : List Marked) (ys : List WireExchange) (us : List Ask) (lost : List Step) (more : List Mark)
     → map asked_and_answered (steps_in ms) ≡ map read_and_replied ys ++ map asked_and_answered lost
     → AllFit (items ys us) (marks_in ms ++ more) → heard_of more ≡ []
-left_unheard ms [] us lost more is fit =
-    none_second (heard_of (marks_in ms)) (heard_of more)
-    (sym (heard_both (marks_in ms) more) ∙ unanswered_none us (marks_in ms ++ more) fit)
+left_unheard ms [] us lost more is fit = search (rules, arith, none_second, marks_in, heard_both, unanswered_none)
 left_unheard [] (y ∷ ys) us lost more is fit = absurd (cc is)
 left_unheard (n ∷ ms) (y ∷ ys) us lost more is fit = left_unheard ms ys us lost more (cc) fit.1
 
 -- ---- steps of one seat among all
 
 behind_step : (n : Marked) (ms ns : List Marked) → heard_in ms ≡ heard_in ns → heard_in (n ∷ ms) ≡ heard_in (n ∷ ns)
-behind_step (step, other) ms ns same = same
-behind_step (step, heard ask what) ms ns same = ap (λ l. (ask, what) ∷ l) same
-behind_step (step, unheard ask) ms ns same = same
+behind_step n ms ns = search (rules, arith)
 
 unheard_step : (n : Marked) (ms ns : List Marked) → heard_in (n ∷ ms) ≡ [] → heard_in (n ∷ ns) ≡ heard_in ns
-unheard_step (step, other) ms ns none = refl
-unheard_step (step, heard ask what) ms ns none = absurd (cc none)
-unheard_step (step, unheard ask) ms ns none = refl
+unheard_step n ms ns = search (rules, arith)
 
 unheard_rest : (n : Marked) (ms : List Marked) → heard_in (n ∷ ms) ≡ [] → heard_in ms ≡ []
-unheard_rest (step, other) ms none = none
-unheard_rest (step, heard ask what) ms none = absurd (cc none)
-unheard_rest (step, unheard ask) ms none = none
+unheard_rest n ms = search (rules, arith)
 
 without : (n : Marked) (ms : List Marked) (b : Bool) → heard_in (cond b (n ∷ ms) ms) ≡ [] → heard_in ms ≡ []
 without n ms true none = unheard_rest n ms none
@@ -214,12 +198,17 @@ module _ {L : Lending} {S G O : Type 0} (m : Means L S G O) (max : ℕ) (log : L
     unfolding heard_of
     all_heard [] each unused answered = refl
     all_heard (w ∷ ws) each unused answered =
-        let P = λ (y : WireExchange). IsAnswered y.ask y.answer in
-        let behind = all_answered m max (map (λ (v : Whose m max log). v.0) ws) in
-        heard_both (marks_of m max log w) (flat_map (marks_of m max log) ws)
-        ∙ (λ i. one_heard w each.0 unused.0 (all_first P (answered_on m max w.0) behind answered) i
-        ++ all_heard ws each.1 unused.1 (all_second P (answered_on m max w.0) behind answered) i)
-        ∙ sym (told_both (asks_over m max log w) (flat_map (asks_over m max log) ws))
+        search (
+          rules,
+          arith,
+          IsAnswered,
+          heard_both,
+          one_heard,
+          all_first,
+          all_second,
+          told_both,
+          all_heard ws each.1 unused.1,
+        )
 
 module _ {L : Lending} {S G O M : Type 0} (m : Means L S G O) (tells : M → ℕ → M → Type 0)
     (given : Given M (Lent L S G O)) (left : Left M (Lent L S G O)) (pool : IsServedPool m tells given left)

@@ -1,7 +1,7 @@
 -- A push in a run whose steps are marked: each request that was heard is a turn, and what is served between two of them
 -- leaves its upload.
 use Rattle.std.proofs.Common.{◌≡◌, ℕ, List, [], ◌∷◌, ◌++◌, refl, sym, ap, subst, ◌∙◌, append-nil, append_assoc, inl}
-use Rattle.std.proofs.Common.{inr, Option, Some, None, arith, length, length-append}
+use Rattle.std.proofs.Common.{inr, Option, Some, None, arith, length, length-append, rules}
 use Rattle.std.specs.List.{AllByRecursion}
 use Rattle.std.proofs.lemmas.List.{map-append}
 use Rattle.upload_service.specs.Machine.{State, Turn, same}
@@ -96,17 +96,14 @@ place_told name place ask (Some what) = refl
 
 place_is : (name : List ℕ) (log : List Attempt) → place_from name None (heard_by log) ≡ heard_place name log
 place_is name [] = refl
-place_is name (e ∷ log) =
-    place_behind name None (heard_by log) (asked_and_told e.ask e.heard)
-    ∙ ap (λ place. place_from name place (asked_and_told e.ask e.heard)) (place_is name log)
-    ∙ place_told name (heard_place name log) e.ask e.heard
+place_is name (e ∷ log) = simp (place_behind, place_told, place_is name log)
 
 apart_behind : (name : List ℕ) (place : Option (List ℕ)) (xs ys : List Marked) → AreApart name place (xs ++ ys)
     → AreApart name (place_from name place (heard_in xs)) ys
 apart_behind name place [] ys apart = apart
 apart_behind name place ((step, other) ∷ xs) ys apart = apart_behind name place xs ys apart.1
 apart_behind name place ((step, heard ask what) ∷ xs) ys apart =
-    apart_behind name (place_after name (Some what) place) xs ys apart
+    search (rules, arith, apart_behind name (place_after name (Some what) place) xs ys apart)
 apart_behind name place ((step, unheard ask) ∷ xs) ys apart = apart_behind name place xs ys apart
 
 some_more : (xs ys : List Marked) → ¬ (heard_in xs ≡ []) → ¬ (heard_in (xs ++ ys) ≡ [])
@@ -116,9 +113,9 @@ apart_front : (name : List ℕ) (place : Option (List ℕ)) (xs ys : List Marked
     → AreApart name place xs
 apart_front name place [] ys apart = tt
 apart_front name place ((step, other) ∷ xs) ys apart =
-    (λ some. apart.0 (some_more xs ys some), apart_front name place xs ys apart.1)
+    search (rules, arith, some_more, apart_front name place xs ys apart.1)
 apart_front name place ((step, heard ask what) ∷ xs) ys apart =
-    apart_front name (place_after name (Some what) place) xs ys apart
+    search (rules, arith, apart_front name (place_after name (Some what) place) xs ys apart)
 apart_front name place ((step, unheard ask) ∷ xs) ys apart = apart_front name place xs ys apart
 
 -- something is heard behind these
@@ -133,15 +130,11 @@ all_harmless : (p : Push) (place : Option (List ℕ)) (xs : List Marked) (step :
     (ys : List Marked) → heard_in xs ≡ [] → AreApart p.name place (xs ++ (step, heard ask what) ∷ ys)
     → AllByRecursion Agrees xs → AllByRecursion (IsFair p) xs → AreHarmless p place (exchanges_in xs)
 all_harmless p place [] step ask what ys none apart agree fair = tt
-all_harmless p place ((at, other) ∷ xs) step ask what ys none apart agree fair = (
-  harmless p place at.exchange.ask (apart.0 (heard_later xs step ask what ys)),
-  all_harmless p place xs step ask what ys none apart.1 agree.1 fair.1,
-)
+all_harmless p place ((at, other) ∷ xs) step ask what ys none apart agree fair =
+    search (rules, arith, harmless, heard_later, all_harmless p place xs step ask what ys none apart.1 agree.1 fair.1)
 all_harmless p place ((at, heard a w) ∷ xs) step ask what ys none apart agree fair = absurd (cc none)
-all_harmless p place ((at, unheard a) ∷ xs) step ask what ys none apart agree fair = (
-  subst (IsHarmless p place) (sym agree.0) (own_harmless p place fair.0.0 a fair.0.1),
-  all_harmless p place xs step ask what ys none apart agree.1 fair.1,
-)
+all_harmless p place ((at, unheard a) ∷ xs) step ask what ys none apart agree fair =
+    search (rules, arith, own_harmless, all_harmless p place xs step ask what ys none apart agree.1 fair.1)
 
 -- ---- runs
 
@@ -154,9 +147,7 @@ record Split (start : State) (xs ys : List served.Exchange) (end : State) : Type
 split_run : (start : State) (xs ys : List served.Exchange) (end : State) → Run start (xs ++ ys) end
     → Split start xs ys end
 split_run start [] ys end run = record { mid = start; first = refl; second = run }
-split_run start (x ∷ xs) ys end run =
-    let more = split_run run.0 xs ys end run.2 in
-    record { mid = more.mid; first = (run.0, run.1, more.first); second = more.second }
+split_run start (x ∷ xs) ys end run = search (rules, arith, split_run run.0 xs ys end run.2)
 
 pub join_runs : (start : State) (xs ys : List served.Exchange) (mid end : State) → Run start xs mid → Run mid ys end
     → Run start (xs ++ ys) end
@@ -191,9 +182,9 @@ last_heard : (ms : List Marked) (earlier : List (Ask × Heard)) (ask : Ask) (wha
 last_heard [] [] ask what e = absurd (cc e)
 last_heard [] (x ∷ earlier) ask what e = absurd (cc e)
 last_heard ((step, other) ∷ ms) earlier ask what e =
-    one_in_front (step, other) ms earlier earlier ask what (λ front is. is) (last_heard ms earlier ask what e)
+    search (rules, arith, one_in_front, last_heard ms earlier ask what e)
 last_heard ((step, unheard a) ∷ ms) earlier ask what e =
-    one_in_front (step, unheard a) ms earlier earlier ask what (λ front is. is) (last_heard ms earlier ask what e)
+    search (rules, arith, one_in_front, last_heard ms earlier ask what e)
 last_heard ((step, heard a w) ∷ ms) [] ask what e =
     let pairs : ◌≡◌ {A = Ask × Heard} (a, w) (ask, what) = cc in
     record {
@@ -205,8 +196,7 @@ last_heard ((step, heard a w) ∷ ms) [] ask what e =
       none_behind = cc;
     }
 last_heard ((step, heard a w) ∷ ms) ((b, v) ∷ earlier) ask what e =
-    one_in_front (step, heard a w) ms earlier ((b, v) ∷ earlier) ask what (λ front is. cc)
-    (last_heard ms earlier ask what (cc))
+    search (rules, arith, one_in_front, last_heard ms earlier ask what (cc))
 
 -- ---- the push in the run
 

@@ -1,14 +1,13 @@
 -- A reference that was read has sixteen bytes, so the place that a push has heard does.
-use Rattle.std.proofs.Common.{◌≡◌, ℕ, ◌+◌, ◌*◌, ◌<◌, ◌==◌, true, List, [], ◌∷◌, length, arith, subst}
-use Rattle.std.proofs.Common.{sym, take, drop, Option, Some, None}
+use Rattle.std.proofs.Common.{◌≡◌, ℕ, ◌<◌, ◌==◌, true, List, [], ◌∷◌, length, arith, rules}
+use Rattle.std.proofs.Common.{take, drop, Option, Some, None}
 use Rattle.std.specs.Prelude.{◌&&◌, option_and_then, slice_index}
 use Rattle.std.specs.List.{list_all}
 use Rattle.std.proofs.lemmas.Bool.{and_parts, eqb-true}
 use Rattle.std.proofs.lemmas.Bool.Decides.{nat_tests}
 use Rattle.std.proofs.lemmas.List.Sums.{AllPass-from_list_all}
-use Rattle.std.proofs.lemmas.List.Elements.{All-from_get_or}
 use Rattle.std.proofs.lemmas.Option.{none-some}
-use Rattle.uuid.specs.Text.{by_index, byte_of_digits, close_brace, digits_of, has_hyphens, has_urn_prefix, is_hex_digit}
+use Rattle.uuid.specs.Text.{by_index, byte_of_digits, close_brace, has_urn_prefix, is_hex_digit}
 use Rattle.uuid.specs.Text.{open_brace, parsed_braced, parsed_hyphenated, parsed_simple, parsed_urn, value_of}
 use Rattle.uuid.proofs.TextLemmas.{by_index_at, by_index_length}
 use Rattle.upload_names.specs.Reference.{reference_of}
@@ -33,37 +32,18 @@ digit_small c is = grind (arith, nat_tests)
 
 digit_at : (hex : List ℕ) → length hex ≡ 32 → list_all is_hex_digit hex ≡ true → (k : ℕ) → k < 32
     → value_of (slice_index hex k) < 16
-digit_at hex long all k within =
-    digit_small (slice_index hex k) (AllPass-from_list_all is_hex_digit hex all k 0 (omega (arith, long, within)))
+digit_at hex long all k within = search (rules, arith, digit_small, AllPass-from_list_all)
 
 bytes_read : (hex : List ℕ) → length hex ≡ 32 → list_all is_hex_digit hex ≡ true
     → IsReference (by_index 16 (byte_of_digits hex))
 bytes_read hex long all =
-    let out : List ℕ = by_index 16 (byte_of_digits hex) in
-    let sized : length out ≡ 16 = by_index_length 16 (byte_of_digits hex) in
-    record {
-      sized = sized;
-      bytes =
-          All-from_get_or (λ b. b < 256) out 0
-          (λ k within.
-          let here : k < 16 = omega (arith, sized, within) in
-          let high = digit_at hex long all (2 * k) (omega (arith, here)) in
-          let low = digit_at hex long all (2 * k + 1) (omega (arith, here)) in
-          subst (λ b. b < 256) (sym (by_index_at 16 (byte_of_digits hex) k 0 here)) (omega (arith, high, low)));
-    }
+    omega (arith, by_index_length 16 (byte_of_digits hex), digit_at hex long all, by_index_at 16 (byte_of_digits hex))
 
 simple_read : (hex : List ℕ) → IsRead (parsed_simple hex)
-simple_read hex =
-    cond_case IsRead ((length hex == 32) && list_all is_hex_digit hex) (Some (by_index 16 (byte_of_digits hex))) None
-    (λ both at is.
-    let parts = and_parts (length hex == 32) (list_all is_hex_digit hex) both in
-    subst IsReference (same_inside is) (bytes_read hex (eqb-true (length hex) 32 parts.0) parts.1))
-    (λ not. nothing_read)
+simple_read hex = search (rules, arith, cond_case, and_parts, same_inside, bytes_read, eqb-true, nothing_read)
 
 hyphenated_read : (s : List ℕ) → IsRead (parsed_hyphenated s)
-hyphenated_read s =
-    cond_case IsRead ((length s == 36) && has_hyphens s) (parsed_simple (digits_of s)) None
-    (λ both. simple_read (digits_of s)) (λ not. nothing_read)
+hyphenated_read s = search (rules, arith, cond_case, simple_read, nothing_read)
 
 braced_read : (s : List ℕ) → IsRead (parsed_braced s)
 braced_read s =
@@ -102,8 +82,7 @@ place_read name h = path_read h.place name
 after_read : (name : List ℕ) (heard : Option Heard) (place : Option (List ℕ)) → IsRead place
     → IsRead (place_after name heard place)
 after_read name None place is = is
-after_read name (Some h) place is =
-    cond_case IsRead (h.status == 202) (place_of name h) place (λ yes. place_read name h) (λ no. is)
+after_read name (Some h) place is = search (rules, arith, cond_case, place_read)
 
 pub place_heard : (name : List ℕ) (log : List Attempt) → IsRead (heard_place name log)
 place_heard name [] = nothing_read

@@ -1,9 +1,9 @@
 -- What the marks of a seat say of its steps.
 use Rattle.std.proofs.Common.{◌≡◌, ℕ, ◌<◌, ◌⊎◌, Bool, true, false, List, [], ◌∷◌, ◌++◌, length, map, filter, refl, sym}
-use Rattle.std.proofs.Common.{ap, subst, ◌∙◌, append-nil, append_assoc, inl, inr, Option, Some, None, cond}
+use Rattle.std.proofs.Common.{ap, subst, ◌∙◌, append-nil, append_assoc, inl, inr, Option, Some, None, cond, arith}
 use Rattle.std.specs.Prelude.{⊤, ◌==◌, ◌^◌}
 use Rattle.std.specs.List.{AllByRecursion, flat_map}
-use Rattle.std.proofs.Common.{⊎_elim}
+use Rattle.std.proofs.Common.{⊎_elim, rules}
 use Rattle.std.proofs.lemmas.Bool.{eq-eqb}
 use Rattle.std.proofs.lemmas.List.{map-append}
 use Rattle.std.proofs.lemmas.List.Elements.{All-filter, All-from_recursion, recursion_from_All}
@@ -14,8 +14,6 @@ use Rattle.upload_wire.specs.Conversation.{Moves, WireExchange, ConnectionState,
 use Rattle.upload_wire.specs.ConnectionRuns.{unanswered_last}
 use Rattle.upload_wire.specs.declared.connection.ConnEnd.{ConnEnd}
 use Rattle.upload_wire.specs.declared.connection.ConnEnd.TheVariants.{DeskGone}
-use Rattle.upload_wire.specs.declared.connection.ConnEnd.TheVariants.{Fault}
-use Rattle.upload_wire.specs.declared.connection.ConnFault.TheVariants as Conn
 use Rattle.upload_client.specs.declared.heard.Heard.{Heard}
 use Rattle.upload_intake.specs.Log.{Step}
 use Rattle.upload_intake.specs.Seats.{SeatState}
@@ -31,7 +29,6 @@ use Rattle.upload_push.proofs.Requests.{by_sound}
 use Rattle.wire_laws.specs.Joined.{TransportCall, IsAudible, IsNoGet, IsOneOf, AnswerSays, AreUnanswered, AreJoined}
 use Rattle.wire_laws.specs.WrittenAsks.{HasLawfulParts, written_style}
 use Rattle.wire_laws.specs.WrittenExchanges.{HasSize, IsWritable, MayBeAsked}
-use Rattle.wire_laws.specs.WrittenReplies.{FitsMethod}
 use Rattle.upload_wire.proofs.Lists.{all_weaker, all_both, all_first, all_second}
 use Rattle.wire_laws.proofs.ShortAnswers.{short_answers}
 use Rattle.wire_laws.proofs.WrittenExchanges.{answers_heard}
@@ -114,20 +111,16 @@ unanswered_fit : (xs : List TransportCall) (ks : List Mark) (us : List Ask) → 
 unanswered_fit xs ks [] marked joined = tt
 unanswered_fit [] ks (u ∷ us) marked joined = absurd joined
 unanswered_fit (x ∷ xs) [] (u ∷ us) marked joined = absurd marked
-unanswered_fit (x ∷ xs) (k ∷ ks) (u ∷ us) marked joined = (
-  marked_fits (unanswered_item u) x k marked.0 (unanswered_fits u x.ask x.heard joined.0 joined.1),
-  unanswered_fit xs ks us marked.1 joined.2,
-)
+unanswered_fit (x ∷ xs) (k ∷ ks) (u ∷ us) marked joined =
+    search (rules, arith, marked_fits, unanswered_fits, unanswered_fit xs ks us marked.1 joined.2)
 
 joined_fit : (xs : List TransportCall) (ks : List Mark) (ys : List WireExchange) (us : List Ask) → MarksAll xs ks
     → AreJoined xs ys us → AllFit (items ys us) (marks_on ks ys us)
 joined_fit xs ks [] us marked joined = unanswered_fit xs ks us marked joined
 joined_fit [] ks (y ∷ ys) us marked joined = absurd joined
 joined_fit (x ∷ xs) [] (y ∷ ys) us marked joined = absurd marked
-joined_fit (x ∷ xs) (k ∷ ks) (y ∷ ys) us marked joined = (
-  marked_fits (answered_item y) x k marked.0 (answered_fits y.ask y.answer x.ask x.heard joined.0 joined.1),
-  joined_fit xs ks ys us marked.1 joined.2,
-)
+joined_fit (x ∷ xs) (k ∷ ks) (y ∷ ys) us marked joined =
+    search (rules, arith, marked_fits, answered_fits, joined_fit xs ks ys us marked.1 joined.2)
 
 others_unanswered_fit : (us : List Ask) → AllFit (map unanswered_item us) (unanswered_marks [] us)
 others_unanswered_fit [] = tt
@@ -169,16 +162,7 @@ own_marks p (k ∷ ks) (y ∷ ys) us own = (own.0, own_marks p ks ys us own.1)
 
 -- a push asks for no blob by a GET
 sound_no_get : (p : Push) (log : List push.Attempt) (ask : Ask) → IsSoundAsk p log ask → IsNoGet ask
-sound_no_get p log ask sound =
-    by_sound p log IsNoGet
-    (record {
-      opening = λ name digest is. cc;
-      chunk = λ at range body place next name digest is. cc;
-      status = λ at place name digest is. cc;
-      close = λ at place all name digest is. cc;
-      head = λ name digest is. cc;
-    })
-    ask sound
+sound_no_get p log ask sound = search (rules, arith, by_sound)
 
 -- a request of a push is sound behind those before it
 sound_behind : (p : Push) (later earlier : List push.Attempt) (e : push.Attempt) → IsSound p (later ++ e ∷ earlier)
@@ -187,10 +171,7 @@ sound_behind p [] earlier e sound = sound.0
 sound_behind p (x ∷ later) earlier e sound = sound_behind p later earlier e sound.1
 
 own_ask : (p : Push) (log : List push.Attempt) (ask : Ask) → IsSound p log → IsAskOf log ask → IsOwn p ask
-own_ask p log ask sound is = (
-  is.earlier,
-  subst (IsSoundAsk p is.earlier) is.same (sound_behind p is.later is.earlier is.at (subst (IsSound p) is.split sound)),
-)
+own_ask p log ask sound is = search (rules, arith, sound_behind)
 
 own_asks : (p : Push) (log : List push.Attempt) (xs : List TransportCall) → IsSound p log
     → AllByRecursion (λ x. IsAskOf log x.ask) xs → AllByRecursion (λ x. IsOwn p x.ask) xs
@@ -216,21 +197,13 @@ record IsKnown (ask : Ask) : Type 0 where
 
 answer_audible : (y : WireExchange) → IsAnswered y.ask y.answer → IsKnown y.ask
     → y.style ≡ written_style y.ask → IsAudible y
-answer_audible y is known style_is =
-    let fits =
-    answers_heard is.state is.lawful is.limits is.secret is.now y.ask y.answer is.after known.parts is.turn is.sized in
-    record {
-      values = fits.0;
-      fits = subst (λ s. FitsMethod y.answer s.head) (sym style_is) fits.1;
-      short = short_answers is.state is.secret is.now y.ask y.answer is.after known.no_get is.turn;
-    }
+answer_audible y is known style_is = search (rules, arith, answers_heard, short_answers)
 
 known_of : (max : ℕ) (host : List ℕ) (xs : List TransportCall) (ask : Ask)
     → AllByRecursion (λ x. MayBeAsked max x.ask host) xs → AllByRecursion (λ x. IsNoGet x.ask) xs
     → IsOneOf xs ask → IsKnown ask
 known_of max host [] ask may none one = absurd one
-known_of max host (x ∷ xs) ask may none (inl is) =
-    subst IsKnown (sym is) (record { parts = may.0.parts; no_get = none.0 })
+known_of max host (x ∷ xs) ask may none (inl is) = search (rules, arith)
 known_of max host (x ∷ xs) ask may none (inr one) = known_of max host xs ask may.1 none.1 one
 
 abbrev pub AreAnswered : List WireExchange → Type 0
@@ -250,10 +223,7 @@ all_audible max host xs (y ∷ ys) may none is = (
 module _ {D : Type 0} (step : Moves D) (max : ℕ) (s : Standing D) (new : ConnectionState D) where
   all_heard : (end : ConnEnd) (e : EndsWith step max s new end) → (end ≡ DeskGone → ⊥)
       → unanswered_last step max s new end e ≡ []
-  all_heard DeskGone e there = absurd (there refl)
-  all_heard (Fault (Conn.Wire fault)) e there = refl
-  all_heard (Fault Conn.Write) e there = refl
-  all_heard end e there = refl
+  all_heard end e h = search (rules, arith)
 
 module _ {L : Lending} {S G O : Type 0} (m : Means L S G O) (max : ℕ) where
   abbrev pub items_on : Talk m max → List Item
@@ -354,37 +324,23 @@ module _ {L : Lending} {S G O : Type 0} (m : Means L S G O) (max : ℕ) where
         → AllFit (flat_map items_on (map (λ (w : Whose m max log). w.0) ws)) (flat_map (marks_of m max log) ws)
     all_fit [] each new answered = tt
     all_fit (w ∷ ws) each new answered =
-        both_fit (items_on w.0) (flat_map items_on (map (λ (v : Whose m max log). v.0) ws)) (marks_of m max log w)
-        (flat_map (marks_of m max log) ws)
-        (one_fits w each.0 new.0 (all_first (λ (y : WireExchange). IsAnswered y.ask y.answer) (answered_on m max w.0)
-        (all_answered m max (map (λ (v : Whose m max log). v.0) ws)) answered))
-        (all_fit ws each.1 new.1 (all_second (λ (y : WireExchange). IsAnswered y.ask y.answer) (answered_on m max w.0)
-        (all_answered m max (map (λ (v : Whose m max log). v.0) ws)) answered))
+        search (rules, arith, both_fit, one_fits, all_first, all_second, all_fit ws each.1 new.1)
 
     pub all_own : (ws : List (Whose m max log)) → AllByRecursion (IsWhose m max log) ws
         → AllByRecursion (IsOwnMark p) (flat_map (marks_of m max log) ws)
     all_own [] each = tt
-    all_own (w ∷ ws) each =
-        all_both (IsOwnMark p) (marks_of m max log w) (flat_map (marks_of m max log) ws) (one_owns w each.0)
-        (all_own ws each.1)
+    all_own (w ∷ ws) each = search (rules, arith, all_both, one_owns, all_own ws each.1)
 
 -- ---- a seat's steps
 
 -- the mark of a step that has this request and this answer
 agrees_answered : (step : Step) (ask : Ask) (answer : Answer) (k : Mark) → asked_and_answered step ≡ (ask, answer)
     → Fits (ask, Some answer) k → Agrees (step, k)
-agrees_answered step ask answer other is fits = tt
-agrees_answered step ask answer (heard a what) is fits = (
-  ap (λ (x : Ask × Answer). x.0) is ∙ fits.0,
-  subst (λ r. IsHeardOf r (Some what)) (sym (ap (λ (x : Ask × Answer). x.1) is)) fits.1,
-)
-agrees_answered step ask answer (unheard a) is fits = ap (λ (x : Ask × Answer). x.0) is ∙ fits
+agrees_answered step ask answer k h1 h2 = search (rules, arith)
 
 agrees_unanswered : (step : Step) (ask : Ask) (k : Mark) → step.exchange.ask ≡ ask → Fits (ask, None) k
     → Agrees (step, k)
-agrees_unanswered step ask other is fits = tt
-agrees_unanswered step ask (heard a what) is fits = absurd fits
-agrees_unanswered step ask (unheard a) is fits = is ∙ fits
+agrees_unanswered step ask k h1 h2 = search (rules, arith)
 
 abbrev pub marks_in : List Marked → List Mark
 marks_in ms = map (λ (n : Marked). n.1) ms
@@ -394,8 +350,7 @@ lost_agree : (ms : List Marked) (us : List Ask) (more : List Mark) → asks (ste
     → AllFit (map unanswered_item us) (marks_in ms ++ more) → AllByRecursion Agrees ms
 lost_agree [] us more is fit = tt
 lost_agree (n ∷ ms) [] more is fit = absurd (cc is)
-lost_agree (n ∷ ms) (u ∷ us) more is fit =
-    (agrees_unanswered n.0 u n.1 (cc) fit.0, lost_agree ms us more (cc) fit.1)
+lost_agree (n ∷ ms) (u ∷ us) more is fit = search (rules, arith, agrees_unanswered, lost_agree ms us more (cc) fit.1)
 
 no_steps : (ms : List Marked) → asks (steps_in ms) ≡ [] → AllByRecursion Agrees ms
 no_steps [] is = tt
@@ -404,24 +359,16 @@ no_steps (n ∷ ms) is = absurd (cc is)
 lost_asks : (ms : List Marked) (unheard : List Step)
     → map asked_and_answered (steps_in ms) ≡ map asked_and_answered unheard → asks (steps_in ms) ≡ asks unheard
 lost_asks [] [] is = refl
-lost_asks (n ∷ ms) (s ∷ ss) is =
-    let pairs : ◌≡◌ {A = Ask × Answer} (asked_and_answered n.0) (asked_and_answered s) = cc in
-    let rest : map asked_and_answered (steps_in ms) ≡ map asked_and_answered ss = cc in
-    λ i. (pairs i).0 ∷ lost_asks ms ss rest i
+lost_asks (n ∷ ms) (s ∷ ss) is = search (rules, arith, lost_asks ms ss)
 lost_asks ms ss is = absurd (cc is)
 
 pub seat_agrees : (ms : List Marked) (ys : List WireExchange) (us : List Ask) (lost : List Step) (more : List Mark)
     → map asked_and_answered (steps_in ms) ≡ map read_and_replied ys ++ map asked_and_answered lost
     → (asks lost ≡ []) ⊎ (asks lost ≡ us) → AllFit (items ys us) (marks_in ms ++ more) → AllByRecursion Agrees ms
-seat_agrees ms [] us lost more is sent fit =
-    let same = lost_asks ms lost is in
-    elim sent [
-      | inl none ↦ no_steps ms (same ∙ none)
-      | inr all ↦ lost_agree ms us more (same ∙ all) fit
-    ]
+seat_agrees ms [] us lost more is sent fit = search (rules, arith, lost_asks, no_steps, lost_agree)
 seat_agrees [] (y ∷ ys) us lost more is sent fit = absurd (cc is)
 seat_agrees (n ∷ ms) (y ∷ ys) us lost more is sent fit =
-    (agrees_answered n.0 y.ask y.answer n.1 (cc) fit.0, seat_agrees ms ys us lost more (cc) sent fit.1)
+    search (rules, arith, agrees_answered, seat_agrees ms ys us lost more (cc) sent fit.1)
 
 -- the answered requests of a seat are steps of it
 pub steps_answered : (ss : List Step) (ys : List WireExchange) (lost : List Step)
@@ -429,24 +376,16 @@ pub steps_answered : (ss : List Step) (ys : List WireExchange) (lost : List Step
     → AllByRecursion (λ (s : Step). IsAnswered s.exchange.ask s.exchange.answer) ss → AreAnswered ys
 steps_answered ss [] lost is all = tt
 steps_answered [] (y ∷ ys) lost is all = absurd (cc is)
-steps_answered (s ∷ ss) (y ∷ ys) lost is all =
-    let first : ◌≡◌ {A = Ask × Answer} (asked_and_answered s) (y.ask, y.answer) = cc in
-    (subst (λ (x : Ask × Answer). IsAnswered x.0 x.1) first all.0, steps_answered ss ys lost (cc) all.1)
+steps_answered (s ∷ ss) (y ∷ ys) lost is all = search (rules, arith, steps_answered ss ys lost)
 
 pub all_kept : {A : Type 0} (P : A → Type 0) (test : A → Bool) (xs : List A) → AllByRecursion P xs
     → AllByRecursion P (filter test xs)
-all_kept P test xs all =
-    recursion_from_All P (filter test xs) (All-filter test P xs (All-from_recursion P xs all))
+all_kept P test xs all = search (rules, arith, recursion_from_All, All-filter, All-from_recursion)
 
 -- the steps of one seat
 pub steps_at : (seat : ℕ) (ms : List Marked) → steps_in (at_seat seat ms) ≡ of_seat seat (steps_in ms)
 steps_at seat [] = refl
-steps_at seat (n ∷ ms) =
-    elim (seat == n.0.seat) as (λ b. steps_in (cond b (n ∷ at_seat seat ms) (at_seat seat ms))
-    ≡ cond b (n.0 ∷ of_seat seat (steps_in ms)) (of_seat seat (steps_in ms))) [
-      | true ↦ ap (λ l. n.0 ∷ l) (steps_at seat ms)
-      | false ↦ steps_at seat ms
-    ]
+steps_at seat (n ∷ ms) = search (rules, arith, steps_at seat ms)
 
 -- what holds of the steps of each seat holds of all
 pub by_seats : (P : Marked → Type 0) (number : ℕ) (ms : List Marked)

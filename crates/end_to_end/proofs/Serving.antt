@@ -1,6 +1,7 @@
 -- A push whose steps are marked in the run of a pool left its file there.
+use Rattle.std.proofs.lemmas.Grind.{common_steps}
 use Rattle.std.proofs.Common.{◌≡◌, ℕ, ◌<◌, Bool, true, false, List, [], ◌∷◌, ◌++◌, length, map, refl, sym, ap, subst}
-use Rattle.std.proofs.Common.{◌∙◌, append_assoc, arith, inl, inr, ◌⊎◌, Option, Some, None}
+use Rattle.std.proofs.Common.{◌∙◌, append_assoc, arith, inl, inr, ◌⊎◌, Option, rules}
 use Rattle.std.specs.Prelude.{◌==◌, ◌^◌, IsTrue, get_or, ◌||◌, Ok}
 use Rattle.std.specs.List.{AllByRecursion, flat_map}
 use Rattle.std.proofs.lemmas.List.{map-append}
@@ -51,9 +52,7 @@ or_right false b is = is
 
 held_with : (s : State) (pair : Option (List ℕ × Digest)) (name : List ℕ) (digest : Digest)
     → IsTrue (holds s name digest) → IsTrue (set.contains (pairs_with s.pairs pair) (name, digest))
-held_with s None name digest held = held
-held_with s (Some pair) name digest held =
-    subst IsTrue (sym (contains-insert s.pairs pair (name, digest))) (or_right _ (holds s name digest) held)
+held_with s pair name digest h = search (rules, arith, contains-insert, or_right)
 
 held_by_turn : (s : State) (x : served.Exchange) (t : State) (name : List ℕ) (digest : Digest)
     → Turn s x.ask x.secret x.now x.answer t → IsTrue (holds s name digest) → IsTrue (holds t name digest)
@@ -69,7 +68,7 @@ pub held_by_run : (s : State) (xs : List served.Exchange) (t : State) (name : Li
     → IsTrue (holds s name digest) → IsTrue (holds t name digest)
 held_by_run s [] t name digest run held = subst (λ (v : State). IsTrue (holds v name digest)) (sym run) held
 held_by_run s (x ∷ xs) t name digest run held =
-    held_by_run run.0 xs t name digest run.2 (held_by_turn s x run.0 name digest run.1 held)
+    simp (held_by_turn, held_by_run run.0 xs t name digest run.2 (held_by_turn s x run.0 name digest run.1 held))
 
 limits_by_turn : (s : State) (x : served.Exchange) (t : State) → Turn s x.ask x.secret x.now x.answer t
     → t.limits ≡ s.limits
@@ -139,16 +138,11 @@ module _ {L : Lending} {S G O M : Type 0} (m : Means L S G O) (tells : M → ℕ
   small = body_small given.service.limits limits
 
   run : Run given.service (exchanges_in account.marked) left.service
-  run =
-      subst (λ xs. Run given.service xs left.service)
-      (sym (exchanges_are account.marked ∙ ap exchanges_of account.all)) pool.served.run
+  run = search (rules, arith, exchanges_are)
 
   all_answered_steps : AllByRecursion (λ (x : Step). IsAnswered x.exchange.ask x.exchange.answer)
       (steps_in account.marked)
-  all_answered_steps =
-      subst (AllByRecursion (λ (x : Step). IsAnswered x.exchange.ask x.exchange.answer)) (sym account.all)
-      (steps_lawful laws given.service pool.steps left.service lawful limits pool.served.run
-      (sizes_of pool.steps pool.typed))
+  all_answered_steps = search (rules, arith, IsAnswered, steps_lawful, sizes_of)
 
   -- whose the connections of a seat are
   abbrev pub told_at : (seat : ℕ) (within : seat < length given.workers)
@@ -227,9 +221,7 @@ module _ {L : Lending} {S G O M : Type 0} (m : Means L S G O) (tells : M → ℕ
       )
 
   pub seated : AllByRecursion (λ (n : Marked). n.0.seat < length given.workers) account.marked
-  seated =
-      all_mapped (λ (s : Step). s.seat < length given.workers) (λ (n : Marked). n.0) account.marked
-      (subst (AllByRecursion (λ (s : Step). s.seat < length given.workers)) (sym account.all) pool.seated)
+  seated = search (rules, arith, all_mapped)
 
   pub agree : AllByRecursion Agrees account.marked
   agree = by_seats Agrees (length given.workers) account.marked seated (λ seat within. (seat_is seat within).0)
@@ -241,10 +233,7 @@ module _ {L : Lending} {S G O M : Type 0} (m : Means L S G O) (tells : M → ℕ
 
   pub in_place : IsInOrder m tells given left pool p log account
       → Placed p given.service log account.marked left.service
-  in_place order =
-      placed p given.service log account.marked left.service run order agree
-      (all_weaker (fair p) account.marked own) account.apart
-      (secrets_of pool.steps pool.typed account.marked account.all)
+  in_place order = search (rules, arith, placed, run, agree, all_weaker, fair, own, secrets_of)
 
 module _ {L : Lending} {S G O M : Type 0} (m : Means L S G O) (tells : M → ℕ → M → Type 0) (laws : Laws)
     (given : Given M (Lent L S G O)) (left : Left M (Lent L S G O)) (pool : IsServedPool m tells given left)
@@ -253,9 +242,7 @@ module _ {L : Lending} {S G O M : Type 0} (m : Means L S G O) (tells : M → ℕ
     (account : IsAccount m tells given left pool p (log_of p told))
     (order : IsInOrder m tells given left pool p (log_of p told) account) where
   at : Placed p given.service (log_of p told) account.marked left.service
-  at =
-      in_place m tells given left pool p (log_of p told) (all_sound p told lawful_push) account laws lawful limits
-      lawful_push is_for order
+  at = search (rules, arith, in_place, all_sound)
 
   first : Run given.service (exchanges_of (steps_in at.front)) at.mid
   first = subst (λ xs. Run given.service xs at.mid) (exchanges_are at.front) at.first
@@ -268,10 +255,7 @@ module _ {L : Lending} {S G O M : Type 0} (m : Means L S G O) (tells : M → ℕ
 
   -- what the repository has at some step it has at the end
   there : IsTrue (holds at.mid p.name p.digest) → IsThere p left.service
-  there held =
-      there_by_pair p left.service
-      (lawful_by_run laws given.service (exchanges_of pool.steps) left.service lawful pool.served.run)
-      (held_by_run at.mid (exchanges_of (steps_in at.back)) left.service p.name p.digest second held)
+  there held = search (rules, arith, there_by_pair, lawful_by_run, held_by_run, second)
 
   agrees_front : AllByRecursion Agrees at.front
   agrees_front =
@@ -280,15 +264,11 @@ module _ {L : Lending} {S G O M : Type 0} (m : Means L S G O) (tells : M → ℕ
       lawful_push is_for))
 
   moments_front : NeverFall (exchanges_of (steps_in at.front))
-  moments_front =
-      never_fall_front (exchanges_of (steps_in at.front)) (exchanges_of (steps_in at.back))
-      (subst NeverFall (ap exchanges_of split
-      ∙ map-append (λ (s : Step). s.exchange) (steps_in at.front) (steps_in at.back)) pool.served.moments)
+  moments_front = search (rules, arith, never_fall_front, split, map-append)
 
   -- the steps up to the close are those that the last reply was heard behind
   steps_of_close : (c : IsClosedBy p at.front) → steps_in at.front ≡ steps_in c.earlier ++ c.step ∷ []
-  steps_of_close c =
-      ap steps_in c.split ∙ map-append (λ (n : Marked). n.0) c.earlier ((c.step, heard c.ask c.what) ∷ [])
+  steps_of_close c = search (rules, arith, map-append)
 
   exchanges_of_close : (c : IsClosedBy p at.front)
       → exchanges_of (steps_in c.earlier ++ c.step ∷ []) ≡ exchanges_of (steps_in c.earlier) ++ c.step.exchange ∷ []
@@ -301,10 +281,7 @@ module _ {L : Lending} {S G O M : Type 0} (m : Means L S G O) (tells : M → ℕ
 
   headline_of_close : (c : IsClosedBy p at.front)
       → Headline given.service (exchanges_of (steps_in c.earlier) ++ c.step.exchange ∷ []) at.mid
-  headline_of_close c =
-      let same = ap exchanges_of (steps_of_close c) ∙ exchanges_of_close c in
-      laws.headline given.service (exchanges_of (steps_in c.earlier) ++ c.step.exchange ∷ []) at.mid lawful
-      (subst NeverFall same moments_front) (subst (λ xs. Run given.service xs at.mid) same first)
+  headline_of_close c = grind (arith, common_steps, steps_of_close, exchanges_of_close, moments_front, first)
 
   left_there : (after_all p told).phase ≡ Done Pushed → IsLeftThere p given.service pool.steps left.service
   left_there ended =
@@ -354,11 +331,4 @@ module _ {L : Lending} {S G O M : Type 0} (m : Means L S G O) (tells : M → ℕ
 
 pub pushes_served : {L : Lending} {S G O M : Type 0} (m : Means L S G O) (tells : M → ℕ → M → Type 0) → Laws
     → PushesAreServed m tells
-pushes_served m tells laws = record {
-  pushed =
-      λ given left pool p told lawful limits lawful_push is_for ended account order.
-      left_there m tells laws given left pool p told lawful limits lawful_push is_for account order ended;
-  already =
-      λ given left pool p told lawful limits lawful_push is_for ended account order.
-      found_there m tells laws given left pool p told lawful limits lawful_push is_for account order ended;
-}
+pushes_served m tells laws = search (rules, arith, left_there, found_there)

@@ -1,12 +1,12 @@
 -- What the types of a pool's steps say of them.
-use Rattle.std.proofs.Common.{◌≡◌, ℕ, ◌<◌, List, Option, refl, subst, sym}
+use Rattle.std.proofs.Common.{◌≡◌, ℕ, ◌<◌, List, Option, refl, arith, rules}
 use Rattle.std.specs.Prelude.{◌^◌}
 use Rattle.std.specs.List.{AllByRecursion}
 use Rattle.upload_names.specs.Digest.{Digest}
 use Rattle.upload_service.specs.declared.answer.Answer.{Answer}
 use Rattle.upload_service.specs.declared.answer.Answer.TheVariants.{Blob}
 use Rattle.upload_intake.specs.Log.{Step, exchanges_of}
-use Rattle.upload_intake.specs.Typed.{AllTyped, IsTyped}
+use Rattle.upload_intake.specs.Typed.{AllTyped}
 use Rattle.upload_push.specs.World.{IsSecret}
 use Rattle.upload_wire.proofs.Lists.{all_mapped, all_weaker}
 use Rattle.wire_laws.specs.WrittenExchanges.{HasSize}
@@ -20,17 +20,11 @@ sized other fits = tt
 
 pub sizes_of : (ss : List Step) → AllTyped (exchanges_of ss)
     → AllByRecursion (λ (s : Step). HasSize s.exchange.answer) ss
-sizes_of ss typed =
-    all_weaker (λ (s : Step) t. sized s.exchange.answer t.size) ss
-    (all_mapped IsTyped (λ (s : Step). s.exchange) ss typed)
+sizes_of ss typed = search (rules, arith, all_weaker, sized, all_mapped)
 
 abbrev pub HasSecret : Marked → Type 0
 HasSecret m = IsSecret m.0.exchange.secret
 
 pub secrets_of : (ss : List Step) → AllTyped (exchanges_of ss) → (ms : List Marked) → steps_in ms ≡ ss
     → AllByRecursion HasSecret ms
-secrets_of ss typed ms is =
-    all_weaker (λ (m : Marked) t. record { twelve = t.twelve; bytes = t.bytes }) ms
-    (all_mapped (λ (s : Step). IsTyped s.exchange) (λ (m : Marked). m.0) ms
-    (subst (AllByRecursion (λ (s : Step). IsTyped s.exchange)) (sym is)
-    (all_mapped IsTyped (λ (s : Step). s.exchange) ss typed)))
+secrets_of ss typed ms is = search (rules, arith, all_weaker, all_mapped)

@@ -1,13 +1,6 @@
-use Rattle.upload_intake.specs.Pools.Working.{lending, means}
+use Rattle.std.proofs.Common.{arith, rules}
 use Rattle.end_to_end.proofs.Serving.{pushes_served}
 use Rattle.end_to_end.proofs.laws.pushes_are_served.Goals as goal
 
 pub returns : goal.returns
-returns g c =
-    pushes_served (means (lending g.C.Conns.gives g.C.Conns.takes_back g.C.In.ByteSource.state g.C.Out.ByteSink.state)
-    g.S.Secrets.draws
-    g.G.Gate.watches g.O.Observer.told) g.M.Moments.tells (record {
-      headline = c.headline_holds.ensures;
-      others = c.others_leave_a_session.ensures;
-      reads = λ name at is. c.written_places_are_read.ensures name at is.sixteen is.bytes;
-    })
+returns g c = search (rules, arith, pushes_served)
