@@ -1,6 +1,6 @@
 #!/usr/bin/env python3
 """Uploads to `blobd serve`: their references, each status, many of them, two at once, pauses, clients that go away, and
-which thread hashes.
+which thread hashes, or lets many bytes go.
 
     serve_uploads.py PROGRAM
 """
