@@ -1,5 +1,5 @@
 -- A cause that is told of a part of a call is one of the whole.
-use Rattle.std.proofs.Common.{◌≡◌, true, Result, Ok, Err, IfErr, is_err, arith, rules}
+use Rattle.std.proofs.Common.{Result, Ok, Err, IfErr, arith, rules}
 use Rattle.journal.specs.declared.error.Error.{Error}
 use Rattle.journal.specs.Errors.{Because, WhyNot, Never}
 
@@ -20,8 +20,3 @@ never P false_is = absurd (cc false_is)
 pub why_not : (closed long disk same goal : Type 0) → (closed → goal) → (long → goal) → (disk → goal) → (error : Error)
     → WhyNot closed long disk same error → goal
 why_not closed long disk same goal h1 h2 h3 error h4 = search (rules, arith, never)
-
-pub if_err_told : {T : Type 0} (result : Result T Error) (P : Error → Type 0) → is_err result ≡ true → IfErr result P
-    → (error : Error) × P error
-if_err_told (Ok x) P is told = absurd (cc is)
-if_err_told (Err error) P is told = (error, told)

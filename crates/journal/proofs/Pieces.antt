@@ -1,15 +1,11 @@
 -- What a piece of a batch stands for.
-use Rattle.std.proofs.Common.{◌≡◌, ℕ, ◌+◌, ◌-◌, ◌≤◌, List, [], ◌∷◌, ◌++◌, length, take, drop, Some, None, rules}
+use Rattle.std.proofs.Common.{◌≡◌, ℕ, ◌+◌, ◌≤◌, List, [], ◌∷◌, ◌++◌, length, take, drop, Some, None, rules}
 use Rattle.std.proofs.Common.{refl, sym, ◌∙◌, ap, subst, arith, append_assoc, length-append, length-drop}
 use Rattle.std.proofs.lemmas.List.{take-append-le, drop-append-le, drop-drop, take-append-drop, append-nil}
-use Rattle.journal.specs.Format.{number_of, records, first}
+use Rattle.journal.specs.Format.{records, first}
 use Rattle.journal.specs.Machine.{RunsRecords}
 use Rattle.journal.specs.Reads.{Finds, IsFirst, RunsPast, RunsTo}
 use Rattle.journal.proofs.Reading.{first_found, records_some, records_none}
-
-pub first_is : (bytes : List ℕ) (found : List ℕ × List ℕ) → IsFirst bytes found → first bytes ≡ Some found
-first_is bytes found it =
-    cc (first_found bytes (take (number_of (take 8 bytes)) (drop 8 bytes)) (number_of (take 8 bytes)) refl it.fits refl)
 
 -- what follows it doesn't matter
 first_more : (p q : List ℕ) (found : List ℕ × List ℕ) → IsFirst p found → first (p ++ q) ≡ Some (found.0, found.1 ++ q)
@@ -24,10 +20,6 @@ records_on p q found is = records_some (p ++ q) (found.0, found.1 ++ q) (first_m
 pub left_of : (bytes rest : List ℕ) (found : List ℕ × List ℕ) → IsFirst rest found
     → ((n : ℕ) × (rest ≡ drop n bytes) × (n ≤ length bytes)) → (n : ℕ) × (found.1 ≡ drop n bytes) × (n ≤ length bytes)
 left_of bytes rest found it passed = search (rules, arith, drop-drop, length-drop)
-
-pub left_is : (bytes rest : List ℕ) → ((n : ℕ) × (rest ≡ drop n bytes) × (n ≤ length bytes))
-    → rest ≡ drop (length bytes - length rest) bytes
-left_is bytes rest passed = search (rules, arith, length-drop)
 
 -- a piece, and what a run over it leaves of the batch
 pub past_piece : {M : Type 0} (steps : M → ℕ → List ℕ → M → Type 0) (time : ℕ) (old new : M) (file piece : List ℕ)

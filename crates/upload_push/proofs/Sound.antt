@@ -8,7 +8,7 @@ use Rattle.upload_push.specs.Steps.{Plan, Stand, IsOver, IsWithin, turn, turn_at
 use Rattle.upload_push.specs.Steps.{send_from}
 use Rattle.upload_push.specs.Steps.{opened, chunk_confirmed, place_of, refused_by, to_phase, chunk_end, count_to}
 use Rattle.upload_push.specs.Steps.{ask_at}
-use Rattle.upload_push.specs.Slices.{Push, IsLawfulPush, Attempt, after_all, log_of, logged, plan_of, request}
+use Rattle.upload_push.specs.Slices.{Push, IsLawfulPush, Attempt, after_all, log_of, logged, plan_of}
 use Rattle.upload_push.specs.Slices.{heard_offset, heard_place, place_after, IsSound, LastIsAnswered, EndsRefused}
 use Rattle.upload_push.specs.Slices.{AreUnheard}
 use Rattle.upload_push.specs.Slices.{IsClose, IsHead}
@@ -31,10 +31,6 @@ Tracks p log (Done Already) = LastIsAnswered IsHead 200 log
 Tracks p log (GaveUp (Refused status code)) = EndsRefused status code log
 Tracks p log (GaveUp BadServer) = Unit {0}
 Tracks p log (GaveUp OutOfTries) = Unit {0}
-
--- the log as a record of its newest exchange
-abbrev pub grown : Push → PushAsk → Option Heard → List Attempt → List Attempt
-grown p ask heard log = record { ask = request p ask; heard = heard } ∷ log
 
 pub Follows : Push → List Attempt → Stand → Type 0
 Follows p log s = Tracks p log s.phase
