@@ -116,6 +116,8 @@ def a_bar_on_a_terminal(folder):
         are_cleared = not begun and all(line.endswith("\x1b[K") for line in lines)
         check("each line is drawn from its start, and clears what is behind it", are_cleared, drawn)
         lines = [line.removesuffix("\x1b[K") for line in lines]
+        # a busy machine may keep it waiting
+        lines = [line for line in lines if not line.startswith("blobd: waits for ")]
         equal("the last line is cleared", lines[-1], "")
         count = r"[0-9]+(\.[0-9] [KMG]i| )B"
         form = re.compile(rf"(hashing|sending)  {count} of 64\.0 MiB(  {count}/s  [0-9]+ s left)?")
