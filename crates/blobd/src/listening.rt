@@ -7,7 +7,7 @@ use blobd_data::{
     open_data, read_status, stored_beyond, tell_losses, tell_missing,
 };
 use blobd_serve::{Terms, limits, run_serve, run_serve_kept};
-use blobd_shared::{ByteCount, FAULT, Holding, print_line};
+use blobd_shared::{ByteCount, FAULT, Holding, millis_since, print_line};
 use journal_file::Wary;
 use std::alloc::{AllocError, Global};
 use std::io::{Eprint, ErrorKind, Write};
@@ -193,17 +193,6 @@ fn print_no_listener<R: Eprint>(rt: &R, addr: SocketAddr, error: &io::Error) {
         let _ = eprintln!(rt;
             "blobd: another program has port {port} (ss -ltnp shows which; 5000 is also docker-registry's)"
         );
-    }
-}
-
-/// How many milliseconds have passed since this moment, or none if the clock can't be read.
-fn millis_since<R: Clock>(rt: &R, begun: Option<Instant>) -> u64 {
-    let Some(begun) = begun else {
-        return 0;
-    };
-    match begun.elapsed(rt) {
-        Ok(passed) => u64::try_from(passed.as_millis()).unwrap_or(u64::MAX),
-        Err(_) => 0,
     }
 }
 

@@ -220,8 +220,8 @@ where
         × (halves.0.end.watch.demand ≡ old.demand) × (halves.1.end.watch.demand ≡ old.demand)
         × (new.demand ≡ old.demand)) };
 
-    // It was given back, with all that was read and written over it. As many are left as before, of which is asked the
-    // same.
+    // It was given back, with all that was read and written over it. As many are left as before, and the same
+    // pace is asked of them.
     ghost takes_back = { λ old halves new. (new.left ≡ old.left)
         × (L.history new.door ≡ L.history old.door
         ++ given_back (L.In.given halves.0.end.stream) (L.Out.taken halves.1.end.stream) ∷ [])

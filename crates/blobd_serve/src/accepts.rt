@@ -21,8 +21,7 @@ pub trait Timed {
 /// The connections of one worker, one after the other. A worker has no other way to get one, and gives each back
 /// before it gets the next. `accept` and `take_back` have premises, so that this binds a server that never returns
 /// too. Whoever is lent these knows when the premises hold (`serve_over`); nobody else can, since nothing is known of
-/// `is_free` and
-/// `may_come_back`.
+/// `is_free` and `may_come_back`.
 pub trait Accepts {
     ghost use Rattle.std.specs.Prelude.{List};
     ghost use Rattle.blobd_shared.specs.Connections.{ConnEvent};

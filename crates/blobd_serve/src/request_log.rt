@@ -7,6 +7,7 @@ use crate::fullness::Fullness;
 use crate::log_lines::LogLines;
 use crate::shown::shown_request;
 use crate::time_of_day::time_now;
+use blobd_shared::millis_since;
 use std::alloc::{AllocError, Global};
 use std::io::Eprint;
 use std::rt::Clock;
@@ -108,17 +109,6 @@ impl<'a, R: Clock + Eprint + Wait> Observer for RequestLog<'a, R> {
                 Err(_) => lines.lose(),
             }
         }
-    }
-}
-
-/// The milliseconds since a moment, or 0 if no time can be told.
-fn millis_since<R: Clock>(rt: &R, start: Option<Instant>) -> u64 {
-    let Some(start) = start else {
-        return 0;
-    };
-    match start.elapsed(rt) {
-        Ok(passed) => u64::try_from(passed.as_millis()).unwrap_or(u64::MAX),
-        Err(_) => 0,
     }
 }
 

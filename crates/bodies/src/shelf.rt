@@ -101,8 +101,7 @@ pub trait Shelf {
     fn spool(&self) -> Option<Spool>;
 
     /// Gives this number to a file of its spool. `Taken` says that the number has a file. A crash may lose the name
-    /// until
-    /// `sync`.
+    /// until `sync`.
     fn name(&mut self, number: u64, file: &SyncedFile) -> Result<(), BodyFault>
         ensures held { OnOk result (held self.new number ≡ Some file.now) }
         ensures left { OnOk result ((left : Option (List ℕ)) → may_leave self.new number left

@@ -182,14 +182,15 @@ impl Blob {
         }
     }
 
-    /// Has shares of its parts kept. Of a small blob, of the last segment of a session and of what came behind the
-    /// parts of the last body there are none: these are small.
+    /// Has shares of its parts kept. A small blob has none, nor has the last segment of a session, which is small too.
     pub fn keep_in(&self, shares: &mut Shares) {
         match &self.shape {
-            Shape::Small(_) | Shape::One(_) => {}
+            Shape::Small(_) => {}
+            Shape::One(last) => shares.add_one(last),
             Shape::Several(several) => {
                 shares.add(several.before.settled());
                 shares.add(several.parts.as_slice());
+                shares.add_one(&several.last);
             }
         }
     }

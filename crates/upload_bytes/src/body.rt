@@ -229,9 +229,12 @@ impl Body {
         }
     }
 
-    /// Has shares of its parts kept.
+    /// Has shares of its parts kept, and of those of the upload that it was hashed behind: that may have left meanwhile.
     pub fn keep_in(&self, shares: &mut Shares) {
         shares.add(self.pieces.parts.as_slice());
+        if let Some(behind) = &self.behind {
+            behind.front.keep_in(shares);
+        }
     }
 
     /// Where its parts are listed, for who shares it.

@@ -7,6 +7,7 @@ ghost use Rattle.upload_bytes.specs.Segments.{whole};
 use crate::hashing::Running;
 use crate::part::Part;
 use crate::segments::Segments;
+use crate::shares::Shares;
 use std::marker::Model;
 
 /// The bytes that an upload had received, and a hash that holds them but for the last ones. Its parts are those of the
@@ -60,6 +61,11 @@ impl Front {
         ensures { HoldsIfCarried (Some result) self.now }
     {
         self.hash.copy().with(self.tail.as_slice())
+    }
+
+    /// Has shares of its parts kept.
+    pub(crate) fn keep_in(&self, shares: &mut Shares) {
+        shares.add(self.settled.as_slice());
     }
 
     /// Whether these segments still have just these bytes. They are compared, which takes much less time than to hash

@@ -2,12 +2,12 @@
 //!
 //! A body (`body`) is read into parts (`part`), which have several owners and are never copied, and is hashed as it
 //! comes (`hashing`), in place or in a thread, for whose end others may wait (`thread_end`). It may be written as it
-//! comes too, into a file of a spool (`spool`, `filing`). What an upload received
-//! (`received`) are the parts of its bodies, one after another (`segments`), with hashes that catch up with them
-//! (`prefix_hash`). A body may be hashed behind that (`front`). A blob (`blob`) is kept in the parts that it arrived
-//! in, and is handed out in them (`shared`). Many bytes that lose their last owner go in a thread (`shares`). What
-//! there is no room for is let go as it comes (`gone`). So are the bytes of an upload (`upload`) for which others need
-//! the room: of these the length and the hashes are left (`digested`).
+//! comes too, into a file of a spool (`spool`, `filing`). What an upload received (`received`) are the parts of its
+//! bodies, one after another (`segments`), with hashes that catch up with them (`prefix_hash`). A body may be hashed
+//! behind that (`front`). A blob (`blob`) is kept in the parts that it arrived in, and is handed out in them
+//! (`shared`). Many bytes that lose their last owner go in a thread (`shares`). What there is no room for is let go as
+//! it comes (`gone`). So are the bytes of an upload (`upload`) for which others need the room: of these the length and
+//! the hashes are left (`digested`).
 #![tactic(auto)]
 
 mod blob;

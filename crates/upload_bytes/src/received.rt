@@ -222,8 +222,7 @@ impl Received {
     }
 
     /// Lets the bytes go at a place: what is left has their length and their hashes, which take in here what they
-    /// lack. An
-    /// `Err` gives the bytes back: a thread is at work for one of the hashes.
+    /// lack. An `Err` gives the bytes back: a thread is at work for one of the hashes.
     pub fn let_go<P: HashPlace>(self, place: &P, alloc: Global) -> Result<Digested, Received>
         ensures ok { IfOk result (λ left. left ≡ self) }
         ensures err { IfErr result (λ back. back ≡ self) }

@@ -1,4 +1,4 @@
-//! Parts that are about to lose an owner, kept so that their bytes don't go there.
+//! Parts that are about to lose an owner, kept so that their bytes can go somewhere else.
 use crate::part::Part;
 use std::alloc::Global;
 
@@ -27,9 +27,13 @@ impl Shares {
             return;
         }
         for part in parts {
-            let Ok(share) = part.share() else {
-                return;
-            };
+            self.add_one(part);
+        }
+    }
+
+    /// As `add`, of one part.
+    pub fn add_one(&mut self, part: &Part) {
+        if let Ok(share) = part.share() {
             let _ = self.parts.push(share);
         }
     }

@@ -117,8 +117,8 @@ impl Service {
         self.step_at(&InPlace, ask, secret, now)
     }
 
-    /// As `step`, for a caller with threads, in one of which many bytes go that nobody owns any more: those of a
-    /// refused body, of a blob whose place another one takes, and of idle uploads that leave. A close that isn't
+    /// As `step`, for a caller with threads. Many bytes that nobody owns any more go in a thread of their own: those of
+    /// a refused body, of a blob whose place another one takes, and of idle uploads that leave. A close that isn't
     /// refused before waits for the thread that hashes for its session by the algorithm of its digest, and so does
     /// everybody else whom the caller serves. So the caller waits for it before, while others are served (`catch_up`).
     pub fn step_joining<R: Threads>(
@@ -148,7 +148,8 @@ impl Service {
         self.step_shut(&InPlace, ask, secret, now)
     }
 
-    /// As `step_unchanged`, for a caller with threads: it waits as `step_joining` does.
+    /// As `step_unchanged`, for a caller with threads: it waits as `step_joining` does, and many bytes of the body go in
+    /// a thread.
     pub fn step_unchanged_joining<R: Threads>(
         &mut self,
         rt: &R,
@@ -168,8 +169,7 @@ impl Service {
     }
 
     /// Answers a chunk whose bytes were let go as they came: by the refusal that `step` would answer it by, or
-    /// NoMemory if
-    /// `step` would take it. Nothing changes, and it takes no memory.
+    /// NoMemory if `step` would take it. Nothing changes, and it takes no memory.
     pub fn turn_away(&self, chunk: GoneChunk, now: u64) -> Answer
         ensures turn { (secret : List ℕ) → Turn self.now (chunk_ask chunk) secret now result self.now }
         ensures away { IsTrue (turns_away result) }
@@ -259,6 +259,7 @@ impl Service {
     pub fn give_way<P: HashPlace>(&mut self, place: &P, now: u64)
         ensures { self.new ≡ self.old }
     {
+        self.take_back(place);
         let max_idle = self.tables.limits.max_idle;
         self.tables
             .sessions

@@ -133,8 +133,8 @@ impl Sessions {
         count_awake(&self.open, limits.max_idle, now) >= limits.max_open as usize
     }
 
-    /// Has shares kept of what leaves if one more session is opened: of idle ones, if the table is full with them
-    /// alone.
+    /// Has shares kept of what leaves if one more session is opened: of the idle ones, if the table is full and one of
+    /// them is idle.
     pub fn keep_leaving_in(&self, limits: Limits, now: u64, shares: &mut Shares) {
         if self.open.len() < limits.max_open as usize || self.is_full(limits, now) {
             return;

@@ -55,7 +55,7 @@ impl Tables {
     }
 
     /// Shares of the bytes that may go if a request is served: of its body, of the blob whose place its own takes, and
-    /// of idle sessions. Small ones go where it is served.
+    /// of idle sessions. Bytes that are in no shared part are few, and go where it is served.
     pub fn keep_leaving(&self, ask: &Ask, now: u64) -> Shares {
         let mut shares = self.keep_body(ask);
         match ask {
@@ -88,8 +88,8 @@ impl Tables {
         shares
     }
 
-    /// Has shares kept of the stored blob of a digest if a blob of this size may take its place: only one of its own
-    /// does.
+    /// Has shares kept of the stored blob of a digest if a blob of this size may take its place. One of another size
+    /// can't have the digest, but for a collision.
     fn keep_replaced_in(&self, digest: &BlobDigest, size: u64, shares: &mut Shares) {
         if let Some(blob) = self.stock.get(digest) {
             if blob.len() == size {

@@ -1,8 +1,8 @@
 //! HTTP/1.1 requests and replies of the blob-upload service, from bytes and to bytes.
 //!
 //! Requests come through `input`, which has `http_wire` read a head, and `request` reads what that asks (`asks`) and
-//! its body (`coming`). `connection` asks a `desk`, tells an `observer`, and
-//! `reply` gathers the head of the reply and has it written with its body.
+//! its body (`coming`). `connection` asks a `desk`, tells an `observer`, and `reply` gathers the head of the reply and
+//! has it written with its body.
 #![tactic(auto)]
 
 mod asks;
