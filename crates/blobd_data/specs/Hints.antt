@@ -10,7 +10,8 @@ use Rattle.upload_store.specs.declared.fault.StoreFault.{StoreFault}
 use Rattle.upload_store.specs.declared.fault.StoreFault.TheVariants.{Journal as OfJournal, Record}
 use Rattle.blobd_data.specs.declared.fault.DataFault.{DataFault}
 use Rattle.blobd_data.specs.declared.fault.DataFault.TheVariants.{Folder, Journal, Bodies, NotEmpty, NoBodies}
-use Rattle.blobd_data.specs.declared.fault.DataFault.TheVariants.{NoJournal, EmptyJournal, BrokenJournal, Store}
+use Rattle.blobd_data.specs.declared.fault.DataFault.TheVariants.{NoJournal, EmptyJournal, BrokenJournal}
+use Rattle.blobd_data.specs.declared.fault.DataFault.TheVariants.{HalfMended, Store}
 
 abbrev pub hint_on_folder : OpenFault → List ℕ
 hint_on_folder Locked = codes "; stop that one first: `fuser` names it"
@@ -45,4 +46,5 @@ hint_on NoJournal = codes "; put that back, or move it away and push again"
 hint_on EmptyJournal = codes "; put that back, or move it away and push again"
 hint_on BrokenJournal =
     codes "; put the journal back, or start without BLOBD_STRICT, which mends it or goes on without them"
+hint_on HalfMended = codes "; start again, which mends more of them"
 hint_on (Store fault) = hint_on_store fault

@@ -24,6 +24,8 @@ pub enum DataFault {
     EmptyJournal,
     /// Its journal ends as no crash leaves it: batches of records are lost there.
     BrokenJournal,
+    /// More sectors of its journal are damaged than one start mends.
+    HalfMended,
     /// What it has can't be read, or is not what a server with these limits has written.
     Store(StoreFault),
 }
@@ -59,6 +61,9 @@ impl fmt::Display for DataFault {
             DataFault::NoJournal => f.write_str("it has bodies, but its journal is missing"),
             DataFault::EmptyJournal => f.write_str("it has bodies, but its journal is empty"),
             DataFault::BrokenJournal => write!(f, "journal: {AT_THE_END}"),
+            DataFault::HalfMended => {
+                f.write_str("journal: more sectors are damaged than one start mends")
+            }
             DataFault::Store(fault) => write!(f, "{}", StoreText(fault)),
         }
     }

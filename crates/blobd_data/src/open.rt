@@ -360,6 +360,10 @@ where
     let swept = sweep_mended(rt, &mut journal, &mut shelf, damaged, &mut repairs.mended);
     let (missing, named) = match swept {
         Ok(swept) => {
+            // Past its end there may be records that only another start brings back.
+            if repairs.mended == MOST_MENDED && swept.looked.ending != Ending::Sound {
+                return Err(DataFault::HalfMended);
+            }
             let time = seconds_now(watch.rt);
             let missing = settle_end(rt, &mut journal, swept.looked, damaged, time)?;
             repairs.removed = swept.removed.unwrap_or(0);
@@ -437,10 +441,11 @@ fn open_store<R: Threads, J: Start, S: Start, H: Holds, T: KeepingHost + Drop>(
 /// no journal. `EmptyJournal`: there are bodies, and the journal was cut before its first record. `Store`: the journal
 /// has another format, another version or other limits, it can't be read, there is no memory for a record, or one can't
 /// be run again and `damaged` has the directory refused for it. `BrokenJournal`: the journal ends as no crash leaves
-/// it, and `damaged` has the directory refused for it: nothing is written. Behind an error no record of the directory
-/// is changed, and no body that one names, and no more is written of the journal than its end, which a crash may have
-/// left, and the sectors between records that hid some. Bodies that no record names are removed first, unless a record
-/// or the journal's end is damaged, or was once.
+/// it, and `damaged` has the directory refused for it: nothing is written. `HalfMended`: so many sectors of it are
+/// damaged that another start has to go on mending them. After an error no record of the directory is changed, and no
+/// body that one names, and no more is written of the journal than its end, which a crash may have left, and the
+/// sectors between records that hid some. Bodies that no record names are removed first, unless a record or the
+/// journal's end is damaged, or was once.
 pub fn open_data<R, J: Start, S: Start, H: Holds, T: KeepingHost + Drop>(
     watch: Watch<'_, R>,
     rt: &HostRuntime,

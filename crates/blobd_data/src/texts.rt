@@ -166,6 +166,7 @@ pub fn hint_on(fault: &DataFault) -> &'static str
             "; put that back, or move it away and push again",
         DataFault::BrokenJournal =>
             "; put the journal back, or start without BLOBD_STRICT, which mends it or goes on without them",
+        DataFault::HalfMended => "; start again, which mends more of them",
         DataFault::Store(fault) => hint_on_store(fault),
     }
 }
