@@ -69,7 +69,6 @@ NO_CLAUSE = {
         "Blob::keep_in",
         "Body::keep_in",
         "Upload::keep_in",
-        "Shares::add",
         "Spool::in_folder",
         "Spool::in_memory",
         "SpoolFile::sync_data",
@@ -78,6 +77,7 @@ NO_CLAUSE = {
     "upload_service": {"Service::is_scarce", "Service::room"},
     "upload_store": {"Hints::note", "most_ahead"},
     "journal_file": {"Folder::remove", "Folder::rename"},
+    "blobd_shared": {"millis_since"},
     "blobd_data": {
         "tell_losses",
         "tell_missing",

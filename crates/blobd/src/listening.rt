@@ -24,7 +24,7 @@ use upload_service::Counts;
 
 /// To whom a server tells of itself.
 #[derive(Clone, Copy)]
-pub struct Told {
+pub struct Audience {
     /// Whether somebody looks on.
     pub seen: bool,
     /// Whether the environment says how much the server may hold.
@@ -84,10 +84,10 @@ fn print_small<R: Eprint>(rt: &R, memory: Option<u64>, limited: bool) {
 }
 
 /// Says how much a server may hold, to somebody who looks on; and to everybody if there is no limit.
-fn print_memory<R: Eprint>(rt: &R, memory: Option<u64>, told: Told) {
+fn print_memory<R: Eprint>(rt: &R, memory: Option<u64>, audience: Audience) {
     let _ = match memory {
-        Some(bytes) if told.seen => {
-            let limited = told.limited;
+        Some(bytes) if audience.seen => {
+            let limited = audience.limited;
             eprintln!(rt; "blobd: it holds at most {}", Most { bytes, limited })
         }
         Some(_) => Ok(()),
@@ -250,7 +250,7 @@ where
 }
 
 /// Serves what comes to an address, by a new service; gives the exit status.
-pub fn listen<R>(rt: &R, addr: SocketAddr, terms: Terms, told: Told) -> u8
+pub fn listen<R>(rt: &R, addr: SocketAddr, terms: Terms, audience: Audience) -> u8
 where
     R: Threads + Wait + Sync + Copy + Send + 'static,
     R: AllocGlobal + Clock + RandomSource + Print + Eprint,
@@ -260,9 +260,9 @@ where
     let mut out = io::writer(rt);
     match bind(rt, addr, &mut out) {
         Ok(listener) => {
-            print_memory(rt, terms.memory, told);
-            print_small(rt, terms.memory, told.limited);
-            print_stop(rt, None, told.seen);
+            print_memory(rt, terms.memory, audience);
+            print_small(rt, terms.memory, audience.limited);
+            print_stop(rt, None, audience.seen);
             run_serve(rt, &listener, terms, &mut out)
         }
         Err(status) => status,
@@ -281,7 +281,7 @@ pub fn listen_keeping<'a, R>(
     terms: Terms,
     path: &'a str,
     damaged: Damaged,
-    told: Told,
+    audience: Audience,
 ) -> u8
 where
     R: Threads + Wait + Sync + Copy + Send + 'static,
@@ -293,15 +293,15 @@ where
     let Ok(room) = room_of(host.alloc(), terms.memory) else {
         return print_line(&mut out, "fault: memory", FAULT);
     };
-    print_small(rt, terms.memory, told.limited);
-    if refuse_too_large(rt, host, path, terms.memory, told.limited) {
+    print_small(rt, terms.memory, audience.limited);
+    if refuse_too_large(rt, host, path, terms.memory, audience.limited) {
         return print_line(&mut out, "fault: data", FAULT);
     }
     make_room(rt, host, path, terms.memory);
     let opened = open_data::<R, Wary, Wary, AnyBodies, _>(
         Watch {
             rt,
-            seen: told.seen,
+            seen: audience.seen,
         },
         host,
         path,
@@ -314,13 +314,13 @@ where
     let data = match opened {
         Ok(data) => data,
         Err(fault) => {
-            print_no_data(rt, host, path, &fault, terms.memory, told.limited);
+            print_no_data(rt, host, path, &fault, terms.memory, audience.limited);
             return print_line(&mut out, "fault: data", FAULT);
         }
     };
     tell_losses(rt, host, path, &data.losses);
     tell_missing(rt, path, data.missing);
-    listen_over(rt, addr, terms, data.kept, path, told, &mut out)
+    listen_over(rt, addr, terms, data.kept, path, audience, &mut out)
 }
 
 /// Serves what comes to an address, by a service that is kept in the data directory at `path`; gives the exit status.
@@ -330,7 +330,7 @@ fn listen_over<R, K, W>(
     terms: Terms,
     kept: KeptService<K>,
     path: &str,
-    told: Told,
+    audience: Audience,
     out: &mut W,
 ) -> u8
 where
@@ -344,15 +344,15 @@ where
     requires waiting { K.waiting kept.keeping ≡ [] }
     requires begun { kept.since ≤ K.last kept.keeping }
 {
-    print_holding(rt, kept.service.counts(), terms.memory, told.limited);
+    print_holding(rt, kept.service.counts(), terms.memory, audience.limited);
     match bind(rt, addr, out) {
         Ok(listener) => {
-            let unseen = Told {
+            let unseen = Audience {
                 seen: false,
-                limited: told.limited,
+                limited: audience.limited,
             };
             print_memory(rt, terms.memory, unseen);
-            print_stop(rt, Some(path), told.seen);
+            print_stop(rt, Some(path), audience.seen);
             run_serve_kept(rt, &listener, terms, kept, out)
         }
         Err(status) => status,

@@ -29,7 +29,7 @@ mod words;
 use crate::compacting::run_compact;
 use crate::complaint::{Complaint, complaint_on, complaint_text};
 use crate::help::{HELP, VERSION};
-use crate::listening::{Told, listen, listen_keeping};
+use crate::listening::{Audience, listen, listen_keeping};
 use crate::memory::usual_memory;
 use crate::once::run_once;
 use crate::size::{is_slow, read_memory};
@@ -260,10 +260,10 @@ where
         Err(status) => return status,
     };
     let limited = env::var(host, MEMORY).is_ok();
-    let told = Told { seen, limited };
+    let audience = Audience { seen, limited };
     match data_of(host) {
-        Ok(None) => listen(rt, addr, terms, told),
-        Ok(Some(path)) => listen_keeping(rt, host, addr, terms, path.as_str(), damaged, told),
+        Ok(None) => listen(rt, addr, terms, audience),
+        Ok(Some(path)) => listen_keeping(rt, host, addr, terms, path.as_str(), damaged, audience),
         Err(status) => status,
     }
 }

@@ -6,7 +6,7 @@ use std::io::{self, Eprint};
 use std::{fmt, fs};
 use upload_compact::Amount;
 use upload_journal::{
-    BodyFault, BodyFile, Entry, KeptAsk, KeptBody, KeptExchange, ReplayFault, Told,
+    BodyFault, BodyFile, Entry, KeptAnswer, KeptAsk, KeptBody, KeptExchange, ReplayFault,
 };
 use upload_store::{Loss, Losses};
 
@@ -111,13 +111,13 @@ impl<'a> fmt::Display for ExchangeText<'a> {
         let exchange = self.0;
         let name = name_of(&exchange.ask);
         match exchange.answer {
-            Told::Begun(at) => write!(f, "upload {} of {name}", at.number()),
-            Told::Taken(next) => write!(
+            KeptAnswer::Begun(at) => write!(f, "upload {} of {name}", at.number()),
+            KeptAnswer::Taken(next) => write!(
                 f,
                 "upload {} of {name}, up to byte {next}",
                 upload_of(&exchange.ask)
             ),
-            Told::Stored(digest) => write!(f, "blob {digest} of {name}"),
+            KeptAnswer::Stored(digest) => write!(f, "blob {digest} of {name}"),
         }
     }
 }

@@ -29,13 +29,13 @@ pub(crate) struct Progress {
 
 /// What such a thread reads.
 #[derive(Drop)]
-struct Told {
+struct Ticker {
     total: u64,
     counter: Counter,
     is_over: Arc<AtomicBool, Global>,
 }
 
-impl Told {
+impl Ticker {
     /// Tells of the bytes that come until it is over. Then nothing stands on its line.
     fn tell<R: Clock + Eprint>(&self, rt: &R) {
         let Ok(begun) = Instant::now(rt) else {
@@ -101,13 +101,13 @@ impl Progress {
         R: Threads + Clock + Eprint + Copy + Send + 'static,
     {
         let is_over = Arc::new(alloc, AtomicBool::new(false))?;
-        let told = Told {
+        let ticker = Ticker {
             total,
             counter: counter.share()?,
             is_over: Arc::try_clone(&is_over)?,
         };
         let theirs = *rt;
-        let thread = thread::spawn(rt, move || told.tell(&theirs)).ok();
+        let thread = thread::spawn(rt, move || ticker.tell(&theirs)).ok();
         Ok(Progress {
             thread,
             is_over: Some(is_over),

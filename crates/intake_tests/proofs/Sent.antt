@@ -20,7 +20,7 @@ use Rattle.upload_service.specs.contracts.ask.Ask as ask
 use Rattle.upload_service.proofs.ask.Extent.TheSendSync as extent
 use Rattle.upload_intake.specs.contracts.message.Message as message
 use Rattle.upload_intake.proofs.message.Wish.TheSendSync as wish
-use Rattle.upload_intake.proofs.message.Told.TheSendSync as told
+use Rattle.upload_intake.proofs.message.WishReply.TheSendSync as wish_reply
 use Rattle.upload_intake.proofs.heard.Heard.TheSendSync as heard
 use Rattle.upload_intake.proofs.ends.SendEnd.TheSendSync as send_end
 use Rattle.upload_intake.proofs.ends.TakeEnd.TheSendSync as take_end
@@ -74,7 +74,7 @@ pub seat_sent : IsSend seat.the_row
 seat_sent =
     search (
       message_sent,
-      told.the_send,
+      wish_reply.the_send,
       heard.the_send,
       send_end.the_field_send,
       take_end.the_field_send,

@@ -4,7 +4,7 @@ use bodies::Bond;
 use std::alloc::{AllocError, Global};
 use std::test::Fail;
 use upload_bytes::Body;
-use upload_journal::{BodyFile, BodyFiles, Entry, KeptAsk, KeptBody, KeptExchange, Told};
+use upload_journal::{BodyFile, BodyFiles, Entry, KeptAnswer, KeptAsk, KeptBody, KeptExchange};
 use upload_names::{BlobDigest, UploadRef};
 use upload_store::Hints;
 
@@ -41,7 +41,7 @@ impl Entries {
             ask,
             secret: [0; 12],
             now: 0,
-            answer: Told::Stored(self.digest),
+            answer: KeptAnswer::Stored(self.digest),
         }));
     }
 

@@ -22,7 +22,7 @@ impl Shares {
 
     /// Takes a share of each of these parts, as far as there is memory: of the others there is none, and they go where
     /// they are let go.
-    pub fn add(&mut self, parts: &[Part]) {
+    pub(crate) fn add(&mut self, parts: &[Part]) {
         if self.parts.reserve(parts.len()).is_err() {
             return;
         }
@@ -32,7 +32,7 @@ impl Shares {
     }
 
     /// As `add`, of one part.
-    pub fn add_one(&mut self, part: &Part) {
+    pub(crate) fn add_one(&mut self, part: &Part) {
         if let Ok(share) = part.share() {
             let _ = self.parts.push(share);
         }

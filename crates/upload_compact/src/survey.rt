@@ -13,7 +13,7 @@ use std::collections::BTreeMap;
 use std::io::{self, ErrorKind};
 use upload_bytes::Pieces;
 use upload_journal::{
-    BodyFile, Entry, KeptAsk, KeptBody, KeptExchange, ReadError, Told, read_entry,
+    BodyFile, Entry, KeptAnswer, KeptAsk, KeptBody, KeptExchange, ReadError, read_entry,
 };
 use upload_names::{BlobDigest, RepoName, UploadRef};
 use upload_service::Limits;
@@ -105,7 +105,7 @@ impl Tables {
                 digest,
                 source: _source,
             } => match answer {
-                Told::Stored(_) => self.hold(name, digest, time),
+                KeptAnswer::Stored(_) => self.hold(name, digest, time),
                 _ => self.begin(name, secret, now, answer),
             },
             KeptAsk::Single { name, digest, body } => {
@@ -144,9 +144,9 @@ impl Tables {
         name: RepoName,
         secret: [u8; 12],
         now: u64,
-        answer: Told,
+        answer: KeptAnswer,
     ) -> Result<(), AllocError> {
-        let Told::Begun(at) = answer else {
+        let KeptAnswer::Begun(at) = answer else {
             return Ok(());
         };
         self.leave_idle(now);

@@ -9,7 +9,7 @@ use sqlite_disk::Disk;
 use std::alloc::{AllocError, Global};
 use std::collections::BTreeMap;
 use std::io::{self, ErrorKind};
-use upload_journal::{BodyFile, Entry, KeptAsk, KeptExchange, ReadError, Told, read_entry};
+use upload_journal::{BodyFile, Entry, KeptAnswer, KeptAsk, KeptExchange, ReadError, read_entry};
 use upload_names::{BlobDigest, UploadRef};
 use upload_service::Limits;
 
@@ -135,18 +135,18 @@ impl Scales {
         let now = exchange.now;
         self.moment = self.moment.max(now);
         match exchange.answer {
-            Told::Begun(at) => {
+            KeptAnswer::Begun(at) => {
                 self.leave_idle(now);
                 self.put(at, amount, now)
             }
-            Told::Taken(_) => match &exchange.ask {
+            KeptAnswer::Taken(_) => match &exchange.ask {
                 KeptAsk::Chunk { at, .. } => {
                     let before = self.uploads.get(at).map_or(Amount::none(), |it| it.amount);
                     self.put(*at, before.and(amount), now)
                 }
                 _ => Ok(()),
             },
-            Told::Stored(digest) => self.stored(amount, &exchange.ask, digest),
+            KeptAnswer::Stored(digest) => self.stored(amount, &exchange.ask, digest),
         }
     }
 

@@ -20,7 +20,7 @@ pub enum Wish {
 
 /// What a seat is told of its wish.
 #[derive(Drop)]
-pub enum Told {
+pub enum WishReply {
     /// A thread is at work, which has this end.
     AtWork(ThreadEnd),
     /// What the session received.
@@ -32,10 +32,10 @@ pub enum Told {
 }
 
 /// What is told of a thread that is at work, if one is.
-fn told_of(end: Option<ThreadEnd>) -> Told {
+fn told_of(end: Option<ThreadEnd>) -> WishReply {
     match end {
-        Some(end) => Told::AtWork(end),
-        None => Told::Nothing,
+        Some(end) => WishReply::AtWork(end),
+        None => WishReply::Nothing,
     }
 }
 
@@ -46,19 +46,19 @@ impl Wish {
         rt: &R,
         service: &mut Service,
         keeping: &K,
-    ) -> Told
+    ) -> WishReply
         ensures { service.new ≡ service.old }
     {
         let place = InThreads(rt);
         match self {
             Wish::GoesOn(at, algorithm) => told_of(service.catch_up(&place, &at, algorithm)),
             Wish::Front(at, algorithm) => match service.front(&place, &at, algorithm) {
-                Some(front) => Told::Front(front),
-                None => Told::Nothing,
+                Some(front) => WishReply::Front(front),
+                None => WishReply::Nothing,
             },
             Wish::Spool => match keeping.spool() {
-                Some(spool) => Told::Spool(spool),
-                None => Told::Nothing,
+                Some(spool) => WishReply::Spool(spool),
+                None => WishReply::Nothing,
             },
         }
     }

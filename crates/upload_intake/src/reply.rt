@@ -1,7 +1,7 @@
 //! The way back from the keeper to one seat.
 use crate::ends::SendEnd;
 use crate::heard::Heard;
-use crate::message::Told;
+use crate::message::WishReply;
 use crossbeam_channel::Sender;
 use upload_service::Answer;
 
@@ -10,7 +10,7 @@ use upload_service::Answer;
 pub(crate) struct ReplyLine {
     pub(crate) replies: SendEnd<Heard>,
     /// One waits here at most: a seat takes what it is told before it wishes again.
-    pub(crate) ends: Sender<Told>,
+    pub(crate) ends: Sender<WishReply>,
     pub(crate) is_done: bool,
     /// An answer that isn't kept yet.
     pub(crate) held: Option<Answer>,

@@ -8,7 +8,7 @@ use crate::ends::{SendEnd, TakeEnd};
 use crate::gone::Gone;
 use crate::heard::Heard;
 use crate::line::Item;
-use crate::message::{Message, Told, Wish};
+use crate::message::{Message, Wish, WishReply};
 use crossbeam_channel::Receiver;
 use std::marker::Model;
 use std::sync::Wait;
@@ -43,7 +43,7 @@ pub(crate) struct Place {
 #[derive(Drop)]
 pub struct Seat {
     place: Place,
-    ends: Receiver<Told>,
+    ends: Receiver<WishReply>,
 }
 
 impl Model for Seat {
@@ -147,7 +147,7 @@ impl Seat {
         seat: usize,
         jobs: SendEnd<Message>,
         replies: TakeEnd<Heard>,
-        ends: Receiver<Told>,
+        ends: Receiver<WishReply>,
     ) -> Seat
         requires jobs { known jobs.pass ≡ sender_view seat [] }
         requires replies { known replies.pass ≡ taker_view 1 [] }
@@ -224,7 +224,7 @@ impl Seat {
         ensures { self.new ≡ self.old }
     {
         'waits: for _ in 0..MOST_WAITS {
-            let Told::AtWork(end) = self.wish(rt, Wish::GoesOn(at, algorithm)) else {
+            let WishReply::AtWork(end) = self.wish(rt, Wish::GoesOn(at, algorithm)) else {
                 break;
             };
             end.wait(rt);
@@ -251,7 +251,7 @@ impl Seat {
         let mut body = body;
         let mut behind = 0;
         'hashes: for _ in 0..MOST_HASHES {
-            let Told::Front(front) = self.wish(rt, Wish::Front(at, algorithm)) else {
+            let WishReply::Front(front) = self.wish(rt, Wish::Front(at, algorithm)) else {
                 break;
             };
             let received = front.len();
@@ -271,14 +271,14 @@ impl Seat {
         ensures { self.new ≡ self.old }
     {
         match self.wish(rt, Wish::Spool) {
-            Told::Spool(spool) => Some(spool),
+            WishReply::Spool(spool) => Some(spool),
             _ => None,
         }
     }
 
     // Wishes something, and hears what comes of it: nothing, if the keeper goes meanwhile. Nothing that is seen
     // changes.
-    fn wish<R: Wait>(&mut self, rt: &R, wish: Wish) -> Told
+    fn wish<R: Wait>(&mut self, rt: &R, wish: Wish) -> WishReply
         ensures { self.new ≡ self.old }
     {
         let seat = self.place.seat;
@@ -287,11 +287,11 @@ impl Seat {
             what: Message::Wish(wish),
         };
         let Ok(()) = self.place.jobs.offer(rt, item) else {
-            return Told::Nothing;
+            return WishReply::Nothing;
         };
         match self.ends.recv(rt) {
             Ok(told) => told,
-            Err(_) => Told::Nothing,
+            Err(_) => WishReply::Nothing,
         }
     }
 

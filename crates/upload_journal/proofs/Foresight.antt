@@ -19,27 +19,27 @@ use Rattle.upload_service.specs.Machine.{opening}
 use Rattle.upload_service.specs.Machine.{last_number, Turn}
 use Rattle.upload_service.specs.UploadView.{Act, Sends, AsksOffset, Closes}
 use Rattle.upload_names.specs.Reference.{reference}
-use Rattle.upload_journal.specs.declared.entries.Told.{Told}
-use Rattle.upload_journal.specs.declared.entries.Told.TheVariants.{Taken, Stored}
+use Rattle.upload_journal.specs.declared.entries.KeptAnswer.{KeptAnswer}
+use Rattle.upload_journal.specs.declared.entries.KeptAnswer.TheVariants.{Taken, Stored}
 use Rattle.upload_journal.specs.Short.{told_of}
 use Rattle.upload_journal.specs.Foreseen.{change_of, next_told}
 use Rattle.upload_journal.proofs.Restart.{IsSilent, IsSilentFault, both_ways, nothing, silent_body, fault_if, no_fault}
 
 -- it changes nothing, or is told so
-pub record Tells (told : Option Told) (o : Outcome) : Type 0 where
+pub record Tells (told : Option KeptAnswer) (o : Outcome) : Type 0 where
   pub tells : (told_of (answer_of o) ≡ None) ⊎ (told_of (answer_of o) ≡ told)
 
 as_told : (o : Outcome) → Tells (told_of (answer_of o)) o
 as_told o = record { tells = inr refl }
 
-tells_nothing : (told : Option Told) (o : Outcome) → IsSilent o → Tells told o
+tells_nothing : (told : Option KeptAnswer) (o : Outcome) → IsSilent o → Tells told o
 tells_nothing told o h = record { tells = inl h.none }
 
-tells_if : (told : Option Told) (b : Bool) (x y : Outcome) → Tells told x → Tells told y → Tells told (cond b x y)
+tells_if : (told : Option KeptAnswer) (b : Bool) (x y : Outcome) → Tells told x → Tells told y → Tells told (cond b x y)
 tells_if told true x y h k = h
 tells_if told false x y h k = k
 
-tells_unless : (told : Option Told) (f : Option Answer) (o : Outcome) → IsSilentFault f → Tells told o
+tells_unless : (told : Option KeptAnswer) (f : Option Answer) (o : Outcome) → IsSilentFault f → Tells told o
     → Tells told (unless_fault f o)
 tells_unless told None o h k = k
 tells_unless told (Some answer) o h k = tells_nothing told (Replies answer) (nothing answer (h.none answer refl))
@@ -62,7 +62,7 @@ tells_opening : (s : State) (name secret : List ℕ) (now : ℕ)
     → Tells (next_told s.issued secret) (opening s name secret now)
 tells_opening s name secret now = by_full _ s.issued name secret
 
-by_idle : (told : Option Told) (max_blob : ℕ) (b : Bool) (session : Session) (name at : List ℕ) (act : Act)
+by_idle : (told : Option KeptAnswer) (max_blob : ℕ) (b : Bool) (session : Session) (name at : List ℕ) (act : Act)
     → Tells told (in_session max_blob session name at act)
     → Tells told (at_session max_blob (cond b None (Some session)) name at act)
 by_idle told max_blob true session name at act h = tells_nothing told _ (nothing _ refl)
@@ -87,7 +87,7 @@ tells_mount : (s : State) (name source secret : List ℕ) (digest : Digest) (now
 tells_mount s name source secret digest now true = as_told _
 tells_mount s name source secret digest now false = tells_opening s name secret now
 
-tells_blob : (told : Option Told) (digest : Digest) (head : Bool) (blob : Option (List ℕ))
+tells_blob : (told : Option KeptAnswer) (digest : Digest) (head : Bool) (blob : Option (List ℕ))
     → Tells told (blob_reply digest head blob)
 tells_blob told digest head None = tells_nothing told _ (nothing _ refl)
 tells_blob told digest head (Some blob) = tells_nothing told _ (nothing _ refl)
@@ -112,7 +112,7 @@ foreseen s (asks.Close name at range digest body) secret now = search (rules, ar
 foreseen s (asks.Refused refusal) secret now = tells_nothing None _ (nothing _ refl)
 
 -- an answer that wasn't foreseen doesn't come
-pub never_comes : (s : State) (ask : Ask) (secret : List ℕ) (now : ℕ) (told : Told)
+pub never_comes : (s : State) (ask : Ask) (secret : List ℕ) (now : ℕ) (told : KeptAnswer)
     → change_of s ask secret ≢ Some told → told_of (answer_of (outcome s ask secret now)) ≢ Some told
 never_comes s ask secret now told other comes = search (rules, arith, foreseen)
 
@@ -124,7 +124,7 @@ answer_is s ask secret now answer t (inl turn) some = turn.0
 answer_is s ask secret now answer t (inr turn) some = absurd (some turn.1)
 
 -- so one that was foreseen and is told otherwise changes nothing
-pub tells_none : (s : State) (ask : Ask) (secret : List ℕ) (now : ℕ) (answer : Answer) (t : State) (told : Told)
+pub tells_none : (s : State) (ask : Ask) (secret : List ℕ) (now : ℕ) (answer : Answer) (t : State) (told : KeptAnswer)
     → Turn s ask secret now answer t → answer ≢ answers.NoMemory → change_of s ask secret ≡ Some told
     → told_of answer ≢ Some told → told_of answer ≡ None
 tells_none s ask secret now answer t told turn some will other = search (rules, arith, answer_is, foreseen)

@@ -13,7 +13,7 @@ use Rattle.upload_names.specs.Digest.{Digest}
 use Rattle.upload_service.specs.Run.{Exchange, Run, NeverBefore}
 use Rattle.upload_service.proofs.Whole.{headline_holds}
 use Rattle.upload_journal.specs.declared.body.BodyFile.{BodyFile}
-use Rattle.upload_journal.specs.declared.entries.Told.{Told}
+use Rattle.upload_journal.specs.declared.entries.KeptAnswer.{KeptAnswer}
 use Rattle.upload_journal.specs.Short.{told_of, kept_of}
 use Rattle.upload_journal.specs.Restart.{changes, changes_of, NeverAfter, ChangesAreEnough}
 
@@ -27,11 +27,11 @@ pub turn_stays : (old : State) (ask : Ask) (secret : List ℕ) (now : ℕ) (answ
 unfolding Turn
 turn_stays old ask secret now answer new h = search (rules, arith, stays)
 
-some_or_none : (o : Option Told) → is_some o ≡ false → o ≡ None
+some_or_none : (o : Option KeptAnswer) → is_some o ≡ false → o ≡ None
 some_or_none None e = refl
 some_or_none (Some told) e = absurd cc
 
-told_is : (o : Option Told) → o ≡ None → is_some o ≡ true → ⊥
+told_is : (o : Option KeptAnswer) → o ≡ None → is_some o ≡ true → ⊥
 told_is o none some = absurd cc
 
 pub turn_leads : (old : State) (ask : Ask) (secret : List ℕ) (now : ℕ) (answer : Answer) (new other : State)

@@ -15,7 +15,7 @@ use Rattle.upload_journal.specs.declared.entries.KeptAsk.{KeptAsk}
 use Rattle.upload_journal.specs.declared.entries.KeptAsk.TheVariants.{Opening, Single, Mount, Chunk, Close}
 use Rattle.upload_journal.specs.declared.entries.KeptExchange.{KeptExchange}
 use Rattle.upload_journal.specs.declared.entries.Entry.{Entry}
-use Rattle.upload_journal.specs.declared.entries.Told.{Told}
+use Rattle.upload_journal.specs.declared.entries.KeptAnswer.{KeptAnswer}
 use Rattle.upload_journal.specs.declared.entries.Entry.TheVariants.{Exchange, NumbersUpTo, MomentsUpTo}
 use Rattle.upload_journal.specs.declared.fault.ReadError.{ReadError}
 use Rattle.upload_journal.specs.Fields.{◌>>=◌, Read, Gives, both, made, byte_at, bytes_at, number_at, name_at}
@@ -174,16 +174,16 @@ asks_exact = record { takes = asks_take; again = asks_again }
 
 -- ---- exchanges
 
-abbrev given_fields : List ℕ → Read (List ℕ × (ℕ × Told))
+abbrev given_fields : List ℕ → Read (List ℕ × (ℕ × KeptAnswer))
 given_fields = both (bytes_at 12) (both (number_at w64) told_at)
 
-abbrev exchange_fields : List ℕ → Read (KeptAsk × (List ℕ × (ℕ × Told)))
+abbrev exchange_fields : List ℕ → Read (KeptAsk × (List ℕ × (ℕ × KeptAnswer)))
 exchange_fields = both asks_at given_fields
 
-abbrev fields_text : KeptAsk × (List ℕ × (ℕ × Told)) → List ℕ
+abbrev fields_text : KeptAsk × (List ℕ × (ℕ × KeptAnswer)) → List ℕ
 fields_text p = ask_text p.0 ++ (p.1.0 ++ (to_be_bytes w64 p.1.1.0 ++ told_text p.1.1.1))
 
-abbrev AreFields : KeptAsk × (List ℕ × (ℕ × Told)) → Type 0
+abbrev AreFields : KeptAsk × (List ℕ × (ℕ × KeptAnswer)) → Type 0
 AreFields p = IsKeptAsk p.0 × ((length p.1.0 ≡ 12) × ((p.1.1.0 < 2 ^ 64) × IsTold p.1.1.1))
 
 fields_exact : IsExact exchange_fields fields_text AreFields
@@ -191,7 +191,7 @@ fields_exact =
     both_exact _ _ _ _ _ _ asks_exact
     (both_exact _ _ _ _ _ _ (bytes_exact 12) (both_exact _ _ _ _ _ _ number64 told_exact))
 
-abbrev exchange_from : KeptAsk × (List ℕ × (ℕ × Told)) → KeptExchange
+abbrev exchange_from : KeptAsk × (List ℕ × (ℕ × KeptAnswer)) → KeptExchange
 exchange_from p = record { ask = p.0; secret = p.1.0; now = p.1.1.0; answer = p.1.1.1 }
 
 abbrev exchange_text : KeptExchange → List ℕ
@@ -205,7 +205,7 @@ unfolding exchanges_at exchange_at asks_at
 as_fields [] = refl
 as_fields (kind ∷ bytes) = refl
 
-same_text : (p : KeptAsk × (List ℕ × (ℕ × Told))) → exchange_text (exchange_from p) ≡ fields_text p
+same_text : (p : KeptAsk × (List ℕ × (ℕ × KeptAnswer))) → exchange_text (exchange_from p) ≡ fields_text p
 same_text p = simp append_assoc
 
 exchanges_exact : IsExact exchanges_at exchange_text IsKeptExchange
@@ -219,7 +219,7 @@ exchanges_exact = record {
         m.fits,
       );
   again = λ x rest lawful.
-      let p : KeptAsk × (List ℕ × (ℕ × Told)) = (x.ask, (x.secret, (x.now, x.answer))) in
+      let p : KeptAsk × (List ℕ × (ℕ × KeptAnswer)) = (x.ask, (x.secret, (x.now, x.answer))) in
       as_fields (exchange_text x ++ rest)
       ∙ ap (λ (t : List ℕ). made exchange_from exchange_fields (t ++ rest)) (same_text p)
       ∙ made_again exchange_from exchange_fields fields_text AreFields fields_exact p rest

@@ -24,8 +24,8 @@ use Rattle.upload_journal.specs.declared.fault.EntryFault.TheVariants.{BadBody, 
 use Rattle.upload_journal.specs.declared.body.BodyFile.{BodyFile}
 use Rattle.upload_journal.specs.declared.body.KeptBody.{KeptBody}
 use Rattle.upload_journal.specs.declared.body.KeptBody.TheVariants.{Here, InFiles}
-use Rattle.upload_journal.specs.declared.entries.Told.{Told}
-use Rattle.upload_journal.specs.declared.entries.Told.TheVariants.{Begun, Taken, Stored}
+use Rattle.upload_journal.specs.declared.entries.KeptAnswer.{KeptAnswer}
+use Rattle.upload_journal.specs.declared.entries.KeptAnswer.TheVariants.{Begun, Taken, Stored}
 use Rattle.upload_journal.specs.Fields.{◌>>=◌, Read, both, made, byte_at, number_at, text_at}
 use Rattle.upload_journal.specs.Fields.{measured, IsMeasured, name_of, name_at, digest_at, if_written, reference_in}
 use Rattle.upload_journal.specs.Fields.{IsReference, reference_at, range_text, span_in, span_at, range_at, most_here}
@@ -304,7 +304,7 @@ body_exact = record { takes = body_takes; again = body_again }
 
 -- ---- answers
 
-told_takes : (bytes : List ℕ) (told : Told) (after : List ℕ) → IsBytes bytes
+told_takes : (bytes : List ℕ) (told : KeptAnswer) (after : List ℕ) → IsBytes bytes
     → told_at bytes ≡ Ok (told, after) → Took told_text IsTold bytes told after
 unfolding told_at
 told_takes bytes told after fits e =
@@ -333,7 +333,7 @@ told_takes bytes told after fits e =
       ]
     ]
 
-told_again : (told : Told) (rest : List ℕ) → IsTold told → told_at (told_text told ++ rest) ≡ Ok (told, rest)
+told_again : (told : KeptAnswer) (rest : List ℕ) → IsTold told → told_at (told_text told ++ rest) ≡ Ok (told, rest)
 unfolding told_at
 told_again told rest = search (rules, arith, made_again, reference_exact, number64, digest_exact)
 

@@ -17,8 +17,8 @@ use Rattle.upload_journal.specs.declared.fault.ReadError.TheVariants as errors
 use Rattle.upload_journal.specs.declared.body.BodyFile.{BodyFile}
 use Rattle.upload_journal.specs.declared.body.KeptBody.{KeptBody}
 use Rattle.upload_journal.specs.declared.body.KeptBody.TheVariants.{Here, InFiles}
-use Rattle.upload_journal.specs.declared.entries.Told.{Told}
-use Rattle.upload_journal.specs.declared.entries.Told.TheVariants.{Begun, Taken, Stored}
+use Rattle.upload_journal.specs.declared.entries.KeptAnswer.{KeptAnswer}
+use Rattle.upload_journal.specs.declared.entries.KeptAnswer.TheVariants.{Begun, Taken, Stored}
 
 -- ---- reading
 
@@ -191,17 +191,17 @@ body_at bytes = do
 -- ---- answers
 
 -- a mark, and what the answer names
-abbrev pub told_text : Told → List ℕ
+abbrev pub told_text : KeptAnswer → List ℕ
 told_text (Begun at) = 1 ∷ measured (reference_text at)
 told_text (Taken next) = 2 ∷ to_be_bytes w64 next
 told_text (Stored digest) = 3 ∷ measured (digest_text digest)
 
-abbrev pub IsTold : Told → Type 0
+abbrev pub IsTold : KeptAnswer → Type 0
 IsTold (Begun at) = IsReference at
 IsTold (Taken next) = next < 2 ^ 64
 IsTold (Stored digest) = IsDigest digest
 
-unfoldable pub told_at : List ℕ → Read Told
+unfoldable pub told_at : List ℕ → Read KeptAnswer
 told_at bytes = do
   mark ← byte_at bytes
   if mark.0 == 1 then made Begun reference_at mark.1

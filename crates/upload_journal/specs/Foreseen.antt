@@ -6,15 +6,15 @@ use Rattle.upload_names.specs.Reference.{reference}
 use Rattle.upload_service.specs.declared.ask.Ask.{Ask}
 use Rattle.upload_service.specs.declared.ask.Ask.TheVariants as asks
 use Rattle.upload_service.specs.Machine.{State, Session, holds, last_number}
-use Rattle.upload_journal.specs.declared.entries.Told.{Told}
-use Rattle.upload_journal.specs.declared.entries.Told.TheVariants.{Begun, Taken, Stored}
+use Rattle.upload_journal.specs.declared.entries.KeptAnswer.{KeptAnswer}
+use Rattle.upload_journal.specs.declared.entries.KeptAnswer.TheVariants.{Begun, Taken, Stored}
 
 -- of an opening, if there is a number left
-abbrev pub next_told : ℕ → List ℕ → Option Told
+abbrev pub next_told : ℕ → List ℕ → Option KeptAnswer
 next_told issued secret = if nat_le last_number issued then None else Some (Begun (reference (issued + 1) secret))
 
 -- the answer in short, if the request changes something
-abbrev pub change_of : State → Ask → List ℕ → Option Told
+abbrev pub change_of : State → Ask → List ℕ → Option KeptAnswer
 change_of s asks.Base secret = None
 change_of s (asks.Refused refusal) secret = None
 change_of s (asks.Has name digest head) secret = None

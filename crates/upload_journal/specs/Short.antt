@@ -13,13 +13,13 @@ use Rattle.upload_journal.specs.declared.body.KeptBody.{KeptBody}
 use Rattle.upload_journal.specs.declared.body.KeptBody.TheVariants.{Here, InFiles}
 use Rattle.upload_journal.specs.declared.entries.KeptAsk.{KeptAsk}
 use Rattle.upload_journal.specs.declared.entries.KeptAsk.TheVariants as kept
-use Rattle.upload_journal.specs.declared.entries.Told.{Told}
-use Rattle.upload_journal.specs.declared.entries.Told.TheVariants.{Begun, Taken, Stored}
+use Rattle.upload_journal.specs.declared.entries.KeptAnswer.{KeptAnswer}
+use Rattle.upload_journal.specs.declared.entries.KeptAnswer.TheVariants.{Begun, Taken, Stored}
 use Rattle.upload_journal.specs.Fields.{most_here}
 use Rattle.upload_journal.specs.Entries.{ask_text}
 
 -- an answer in short, if it says that something changed
-abbrev pub told_of : Answer → Option Told
+abbrev pub told_of : Answer → Option KeptAnswer
 told_of answers.Base = None
 told_of (answers.Blob digest size bytes) = None
 told_of (answers.Begun name at) = Some (Begun at)

@@ -14,7 +14,7 @@ ghost use Rattle.upload_journal.specs.Checksums.{with_checksum};
 
 use crate::body::BodyFile;
 use crate::checksum::checksum;
-use crate::entries::Told;
+use crate::entries::KeptAnswer;
 use crate::reading::MOST_HERE;
 use std::alloc::{AllocError, Global};
 use std::marker::Model;
@@ -307,7 +307,7 @@ fn put_reserved(out: &mut Vec<u8>, bytes: &[u8])
 
 fn put_begun(out: &mut Vec<u8>, at: &UploadRef)
     requires { vec_len out.old + most_behind ≤ vec_capacity out.old }
-    ensures items { out.new.items ≡ out.old.items ++ told_text (Told.Begun at.now) }
+    ensures items { out.new.items ≡ out.old.items ++ told_text (KeptAnswer.Begun at.now) }
     ensures room { vec_len out.new + 8 ≤ vec_capacity out.new }
 {
     put_reserved(out, &[1, 0, 0, 0, 36]);
@@ -316,7 +316,7 @@ fn put_begun(out: &mut Vec<u8>, at: &UploadRef)
 
 fn put_taken(out: &mut Vec<u8>, next: u64)
     requires { vec_len out.old + most_behind ≤ vec_capacity out.old }
-    ensures items { out.new.items ≡ out.old.items ++ told_text (Told.Taken next) }
+    ensures items { out.new.items ≡ out.old.items ++ told_text (KeptAnswer.Taken next) }
     ensures room { vec_len out.new + 8 ≤ vec_capacity out.new }
 {
     put_reserved(out, &[2]);
@@ -325,7 +325,7 @@ fn put_taken(out: &mut Vec<u8>, next: u64)
 
 fn put_stored(out: &mut Vec<u8>, digest: &BlobDigest)
     requires { vec_len out.old + most_behind ≤ vec_capacity out.old }
-    ensures items { out.new.items ≡ out.old.items ++ told_text (Told.Stored digest.now) }
+    ensures items { out.new.items ≡ out.old.items ++ told_text (KeptAnswer.Stored digest.now) }
     ensures room { vec_len out.new + 8 ≤ vec_capacity out.new }
 {
     let text = digest.text();

@@ -43,7 +43,7 @@ pub enum KeptAsk {
 
 /// An answer in short: what was changed.
 #[derive(Clone, Copy)]
-pub enum Told {
+pub enum KeptAnswer {
     /// The session of this reference was opened.
     Begun(UploadRef),
     /// The session took the chunk, and has received this many bytes now.
@@ -60,7 +60,7 @@ pub struct KeptExchange {
     pub secret: [u8; 12],
     /// The moment when it was served, in seconds.
     pub now: u64,
-    pub answer: Told,
+    pub answer: KeptAnswer,
 }
 
 /// One entry of a journal.

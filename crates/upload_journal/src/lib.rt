@@ -18,7 +18,7 @@ mod replay;
 pub use bodies::{Bodies, BodyFault};
 pub use body::{BodyFile, BodyFiles, KeptBody};
 pub use draft::{Draft, moments_text, numbers_text};
-pub use entries::{Entry, KeptAsk, KeptExchange, Told};
+pub use entries::{Entry, KeptAnswer, KeptAsk, KeptExchange};
 pub use fault::{EntryFault, ReadError};
 pub use laws::{changes_are_enough, entries_are_read_back, replays_are_runs};
 pub use reading::{MOST_HERE, read_damaged, read_entry};

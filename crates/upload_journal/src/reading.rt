@@ -12,7 +12,7 @@ ghost use Rattle.upload_journal.specs.declared.entries.Entry.{Entry as EntryValu
 
 use crate::body::{BodyFile, BodyFiles, KeptBody};
 use crate::checksum::{checked, unchecked};
-use crate::entries::{Entry, KeptAsk, KeptExchange, Told};
+use crate::entries::{Entry, KeptAnswer, KeptAsk, KeptExchange};
 use crate::fault::{EntryFault, ReadError};
 use std::alloc::Global;
 use upload_bytes::Body;
@@ -205,13 +205,13 @@ fn take_body(alloc: Global, bytes: &mut &[u8]) -> Result<KeptBody, ReadError>
 }
 
 #[tactic(auto, unfolding(crate::specs::Fields::told_at))]
-fn take_told(bytes: &mut &[u8]) -> Result<Told, ReadError>
+fn take_told(bytes: &mut &[u8]) -> Result<KeptAnswer, ReadError>
     ensures { Gives (λ x. (x, bytes.new.now)) result (told_at bytes.old.now) }
 {
     match take_byte(bytes)? {
-        1 => Ok(Told::Begun(take_reference(bytes)?)),
-        2 => Ok(Told::Taken(take_u64(bytes)?)),
-        3 => Ok(Told::Stored(take_digest(bytes)?)),
+        1 => Ok(KeptAnswer::Begun(take_reference(bytes)?)),
+        2 => Ok(KeptAnswer::Taken(take_u64(bytes)?)),
+        3 => Ok(KeptAnswer::Stored(take_digest(bytes)?)),
         _ => Err(ReadError::Fault(EntryFault::BadAnswer)),
     }
 }

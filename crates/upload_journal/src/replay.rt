@@ -12,7 +12,7 @@ ghost use Rattle.upload_service.specs.Run.{Exchange};
 
 use crate::bodies::{Bodies, BodyFault};
 use crate::body::{BodyFile, KeptBody};
-use crate::entries::{Entry, KeptAsk, KeptExchange, Told};
+use crate::entries::{Entry, KeptAnswer, KeptAsk, KeptExchange};
 use crate::fault::{EntryFault, ReadError};
 use crate::foreseen::may_come;
 use crate::reading::read_entry;
@@ -58,7 +58,7 @@ fn extent_of(range: Option<ByteRange>) -> Extent
 
 /// Whether an answer says that this session was begun.
 fn is_begun(given: &Answer, at: &UploadRef) -> bool
-    ensures { IsTrue result ↔ (told_of given.now ≡ Some (Told.Begun at.now)) }
+    ensures { IsTrue result ↔ (told_of given.now ≡ Some (KeptAnswer.Begun at.now)) }
 {
     match given {
         Answer::Begun { at: mine, .. } => mine.same(at),
@@ -68,7 +68,7 @@ fn is_begun(given: &Answer, at: &UploadRef) -> bool
 
 /// Whether an answer says that a chunk was taken, and that the session has received this many bytes now.
 fn is_taken(given: &Answer, next: u64) -> bool
-    ensures { IsTrue result ↔ (told_of given.now ≡ Some (Told.Taken next)) }
+    ensures { IsTrue result ↔ (told_of given.now ≡ Some (KeptAnswer.Taken next)) }
 {
     match given {
         Answer::Taken { next: mine, .. } => *mine == next,
@@ -78,7 +78,7 @@ fn is_taken(given: &Answer, next: u64) -> bool
 
 /// Whether an answer says that the blob of this digest stands.
 fn is_stored(given: &Answer, digest: &BlobDigest) -> bool
-    ensures { IsTrue result ↔ (told_of given.now ≡ Some (Told.Stored digest.now)) }
+    ensures { IsTrue result ↔ (told_of given.now ≡ Some (KeptAnswer.Stored digest.now)) }
 {
     match given {
         Answer::Stored { digest: mine, .. } => mine.same(digest),
@@ -87,13 +87,13 @@ fn is_stored(given: &Answer, digest: &BlobDigest) -> bool
 }
 
 /// Whether an answer is, in short, the one that was recorded.
-fn is_told(given: &Answer, recorded: &Told) -> bool
+fn is_told(given: &Answer, recorded: &KeptAnswer) -> bool
     ensures { IsTrue result ↔ (told_of given.now ≡ Some recorded.now) }
 {
     match recorded {
-        Told::Begun(at) => is_begun(given, at),
-        Told::Taken(next) => is_taken(given, *next),
-        Told::Stored(digest) => is_stored(given, digest),
+        KeptAnswer::Begun(at) => is_begun(given, at),
+        KeptAnswer::Taken(next) => is_taken(given, *next),
+        KeptAnswer::Stored(digest) => is_stored(given, digest),
     }
 }
 
@@ -455,7 +455,7 @@ enum Compared {
 }
 
 /// Compares an answer with a recorded one.
-fn compare(given: Answer, recorded: Told) -> Compared
+fn compare(given: Answer, recorded: KeptAnswer) -> Compared
     ensures same { result ≡ Compared.Same → told_of given ≡ Some recorded }
     ensures no_memory { result ≡ Compared.NoMemory → given ≡ Answer.NoMemory }
     ensures other { result ≡ Compared.Other → (told_of given ≢ Some recorded)

@@ -12,7 +12,7 @@ use Rattle.upload_journal.specs.declared.body.BodyFile.{BodyFile}
 use Rattle.upload_journal.specs.declared.entries.KeptAsk.{KeptAsk}
 use Rattle.upload_journal.specs.declared.entries.KeptAsk.TheVariants as kept
 use Rattle.upload_service.specs.declared.answer.Answer.{Answer}
-use Rattle.upload_journal.specs.declared.entries.Told.{Told}
+use Rattle.upload_journal.specs.declared.entries.KeptAnswer.{KeptAnswer}
 use Rattle.upload_journal.specs.Entries.{IsKeptAsk, asked_text}
 use Rattle.upload_journal.specs.Checksums.{with_checksum}
 use Rattle.upload_journal.specs.Fields.{IsFile, IsKeptBody, IsTold, told_text}
@@ -140,7 +140,7 @@ module _ (stands : ℕ → List ℕ → Type 0) where
       → Records stands text (record { ask = ask; secret = secret; now = moment; answer = answer })
   records_so ask secret moment answer files draft text sound told placed drafted finished len small =
       let k = some_map (λ (k : KeptAsk). asked_text k secret moment) (kept_of ask files) draft drafted in
-      let t = some_map (λ (t : Told). with_checksum (draft ++ told_text t)) (told_of answer) text (sym finished) in
+      let t = some_map (λ (t : KeptAnswer). with_checksum (draft ++ told_text t)) (told_of answer) text (sym finished) in
       let is = kept_as ask files k.0 sound placed k.1 in
       record {
         entry = record { ask = k.0; secret = secret; now = moment; answer = t.0 };
@@ -148,7 +148,7 @@ module _ (stands : ℕ → List ℕ → Type 0) where
           ask = is.0;
           secret = len;
           now = small;
-          answer = subst (λ (o : Option Told). IfSome o IsTold) t.1 told;
+          answer = subst (λ (o : Option KeptAnswer). IfSome o IsTold) t.1 told;
         };
         text_is = sym t.2 ∙ ap (λ (d : List ℕ). with_checksum (d ++ told_text t.0)) (sym k.2);
         is = record { ask = is.1; secret = refl; now = refl; answer = t.1 };

@@ -20,7 +20,7 @@ use Rattle.upload_journal.specs.declared.entries.KeptAsk.TheVariants.{Opening, S
 use Rattle.upload_journal.specs.declared.entries.KeptExchange.{KeptExchange}
 use Rattle.upload_journal.specs.declared.entries.Entry.{Entry}
 use Rattle.upload_journal.specs.declared.entries.Entry.TheVariants.{Exchange as Kept, NumbersUpTo, MomentsUpTo}
-use Rattle.upload_journal.specs.declared.entries.Told.{Told}
+use Rattle.upload_journal.specs.declared.entries.KeptAnswer.{KeptAnswer}
 use Rattle.upload_journal.specs.declared.fault.EntryFault.{EntryFault}
 use Rattle.upload_journal.specs.Entries.{IsEntry, entry_text, entry_of}
 use Rattle.upload_journal.specs.Replay.{Joins, IsBodyOf, IsAskOf, IsExchangeOf, Point, Applies, Replays, StandFor}
@@ -98,7 +98,7 @@ module _ (files : ℕ → Option (List ℕ)) where
   asked_same entry x y p q = λ i.
       asked (ask_same entry.ask x.ask y.ask p.ask q.ask i) ((p.secret ∙ sym q.secret) i) ((p.now ∙ sym q.now) i)
 
-told_is : (answer : Answer) (told : Told) → told_of answer ≡ Some told → answer ≢ NoMemory
+told_is : (answer : Answer) (told : KeptAnswer) → told_of answer ≡ Some told → answer ≢ NoMemory
 told_is answer told e out = (let none : told_of NoMemory ≡ Some told = ap told_of (sym out) ∙ e in cc)
 
 -- ---- entries lead to one point

@@ -16,8 +16,8 @@ use Rattle.upload_journal.specs.declared.body.KeptBody.TheVariants.{Here, InFile
 use Rattle.upload_journal.specs.declared.entries.KeptAsk.{KeptAsk}
 use Rattle.upload_journal.specs.declared.entries.KeptAsk.TheVariants.{Opening, Single, Mount, Chunk, Close}
 use Rattle.upload_journal.specs.declared.entries.KeptExchange.{KeptExchange}
-use Rattle.upload_journal.specs.declared.entries.Told.{Told}
-use Rattle.upload_journal.specs.declared.entries.Told.TheVariants.{Begun, Taken, Stored}
+use Rattle.upload_journal.specs.declared.entries.KeptAnswer.{KeptAnswer}
+use Rattle.upload_journal.specs.declared.entries.KeptAnswer.TheVariants.{Begun, Taken, Stored}
 use Rattle.upload_journal.specs.declared.entries.Entry.{Entry}
 use Rattle.upload_journal.specs.declared.entries.Entry.TheVariants.{Exchange, NumbersUpTo, MomentsUpTo}
 use Rattle.upload_journal.specs.declared.fault.EntryFault.{EntryFault}
@@ -88,7 +88,7 @@ stored digest (Close name at range _ body) t =
     }
 
 -- what an answer tells
-abbrev pub told : Limits → ℕ → KeptAsk → Told → Tables → Tables
+abbrev pub told : Limits → ℕ → KeptAsk → KeptAnswer → Tables → Tables
 told limits now ask (Begun at) t = record t { uploads = begun limits now at t.uploads }
 told limits now ask (Taken next) t = taken now next ask t
 told limits now ask (Stored digest) t = stored digest ask t

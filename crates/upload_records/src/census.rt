@@ -12,7 +12,7 @@ ghost use Rattle.upload_records.specs.Census.{with_blob, taken, stored, told, af
 
 use std::alloc::{AllocError, Global};
 use std::collections::BTreeMap;
-use upload_journal::{BodyFile, Entry, KeptAsk, KeptBody, Told};
+use upload_journal::{BodyFile, Entry, KeptAnswer, KeptAsk, KeptBody};
 use upload_names::{BlobDigest, UploadRef};
 use upload_service::{Counts, Limits};
 
@@ -127,16 +127,16 @@ impl Census {
         }
     }
 
-    fn note(&mut self, ask: &KeptAsk, answer: &Told, now: u64) -> Result<(), AllocError>
+    fn note(&mut self, ask: &KeptAsk, answer: &KeptAnswer, now: u64) -> Result<(), AllocError>
         ensures seen { OnOk result (tables_of self.new
             ≡ told (limits_of self.old) now ask.now answer.now (tables_of self.old)) }
         ensures err { OnErr result (tables_of self.new ≡ tables_of self.old) }
         ensures limits { limits_of self.new ≡ limits_of self.old }
     {
         match answer {
-            Told::Begun(at) => self.begin(at, now),
-            Told::Taken(next) => self.take(ask, *next, now),
-            Told::Stored(digest) => self.store(ask, digest),
+            KeptAnswer::Begun(at) => self.begin(at, now),
+            KeptAnswer::Taken(next) => self.take(ask, *next, now),
+            KeptAnswer::Stored(digest) => self.store(ask, digest),
         }
     }
 

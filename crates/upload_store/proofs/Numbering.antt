@@ -24,8 +24,8 @@ use Rattle.upload_service.specs.Machine.{SessionChange, AllStay, OneBegins, OneT
 use Rattle.upload_service.specs.Machine.{at_session, unless_idle, holds, last_number}
 use Rattle.upload_service.specs.UploadView.{Act}
 use Rattle.upload_service.proofs.Lawful.{lawful_turn}
-use Rattle.upload_journal.specs.declared.entries.Told.{Told}
-use Rattle.upload_journal.specs.declared.entries.Told.TheVariants.{Begun, Taken, Stored}
+use Rattle.upload_journal.specs.declared.entries.KeptAnswer.{KeptAnswer}
+use Rattle.upload_journal.specs.declared.entries.KeptAnswer.TheVariants.{Begun, Taken, Stored}
 use Rattle.upload_journal.specs.declared.entries.KeptAsk.{KeptAsk}
 use Rattle.upload_journal.specs.declared.entries.KeptAsk.TheVariants.{Opening, Single, Mount, Chunk, Close}
 use Rattle.upload_journal.specs.declared.entries.Entry.{Entry}
@@ -54,7 +54,7 @@ issued_more n (OneTakes name at received) = omega arith
 issued_more n (OneLeaves at) = omega arith
 
 -- the session that a request goes to is there if something changes
-session_there : (max_blob max_idle now : ℕ) (found : Option Session) (name at : List ℕ) (act : Act) (told : Told)
+session_there : (max_blob max_idle now : ℕ) (found : Option Session) (name at : List ℕ) (act : Act) (told : KeptAnswer)
     → told_of (answer_of (at_session max_blob (unless_idle max_idle now found) name at act)) ≡ Some told
     → (session : Session) × (found ≡ Some session)
 session_there max_blob max_idle now None name at act told is = absurd (cc is)
@@ -74,7 +74,7 @@ asked_is stands (Mount name digest source) ask is = sym (ap asked_number is)
 asked_is stands (Chunk name at range body) ask is = sym (ap asked_number is.2)
 asked_is stands (Close name at range digest body) ask is = sym (ap asked_number is.2)
 
-module _ (s : State) (lawful : IsLawful s) (secret : List ℕ) (now : ℕ) (told : Told) where
+module _ (s : State) (lawful : IsLawful s) (secret : List ℕ) (now : ℕ) (told : KeptAnswer) where
   asked_low : (ask : Ask) → told_of (answer_of (outcome s ask secret now)) ≡ Some told → asked_number ask ≤ s.issued
   asked_low asks.Base is = omega arith
   asked_low (asks.Has name digest head) is = omega arith
@@ -141,7 +141,7 @@ module _ (s : State) (secret : List ℕ) (now : ℕ) (at : List ℕ) where
       issues_none (asks.Close name to range digest body) (not_stored digest at)
   issues (asks.Refused refusal) = issues_none (asks.Refused refusal) (λ is. cc is)
 
-told_low : (s : State) (ask : Ask) (secret : List ℕ) (now : ℕ) (told : Told)
+told_low : (s : State) (ask : Ask) (secret : List ℕ) (now : ℕ) (told : KeptAnswer)
     → told_of (answer_of (outcome s ask secret now)) ≡ Some told
     → number_told told ≤ issued_with s.issued (effect (outcome s ask secret now)).sessions
 told_low s ask secret now (Begun at) is = issues s secret now at ask is
@@ -155,7 +155,7 @@ record Names (old new : Point) (n : ℕ) : Type 0 where
   pub grows : old.state.issued ≤ new.state.issued
   pub below : n ≤ new.state.issued
 
-turn_names : (s : State) (ask : Ask) (secret : List ℕ) (now : ℕ) (answer : Answer) (t : State) (told : Told)
+turn_names : (s : State) (ask : Ask) (secret : List ℕ) (now : ℕ) (answer : Answer) (t : State) (told : KeptAnswer)
     → IsLawful s → Turn s ask secret now answer t → told_of answer ≡ Some told
     → (s.issued ≤ t.issued) × (asked_number ask ≤ t.issued) × (number_told told ≤ t.issued)
 unfolding Turn

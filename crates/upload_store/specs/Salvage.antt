@@ -11,8 +11,8 @@ use Rattle.upload_journal.specs.declared.bodies.BodyFault.{BodyFault}
 use Rattle.upload_journal.specs.declared.bodies.BodyFault.TheVariants as bodies
 use Rattle.upload_journal.specs.declared.entries.KeptAsk.{KeptAsk}
 use Rattle.upload_journal.specs.declared.entries.KeptAsk.TheVariants.{Opening, Single, Mount, Chunk, Close}
-use Rattle.upload_journal.specs.declared.entries.Told.{Told}
-use Rattle.upload_journal.specs.declared.entries.Told.TheVariants.{Begun, Taken, Stored}
+use Rattle.upload_journal.specs.declared.entries.KeptAnswer.{KeptAnswer}
+use Rattle.upload_journal.specs.declared.entries.KeptAnswer.TheVariants.{Begun, Taken, Stored}
 use Rattle.upload_journal.specs.declared.entries.Entry.{Entry}
 use Rattle.upload_journal.specs.declared.entries.Entry.TheVariants.{Exchange, NumbersUpTo, MomentsUpTo}
 use Rattle.upload_journal.specs.declared.fault.EntryFault.{EntryFault}
@@ -28,7 +28,7 @@ use Rattle.upload_store.specs.Runs.{stands_in, IsReplayOf}
 -- ---- the numbers that an entry names
 
 -- of the session that an answer says was begun
-abbrev pub number_told : Told → ℕ
+abbrev pub number_told : KeptAnswer → ℕ
 number_told (Begun at) = number_of at
 number_told (Taken next) = 0
 number_told (Stored digest) = 0

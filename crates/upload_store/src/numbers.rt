@@ -4,14 +4,14 @@ ghost use Rattle.upload_journal.specs.declared.body.BodyFile.{BodyFile as File};
 ghost use Rattle.upload_store.specs.Found.{ask_numbers, body_numbers, entry_numbers};
 ghost use Rattle.upload_store.specs.Salvage.{number_told, number_asked, highest, before, past};
 
-use upload_journal::{BodyFile, Entry, KeptAsk, KeptBody, Told};
+use upload_journal::{BodyFile, Entry, KeptAnswer, KeptAsk, KeptBody};
 
 /// The number of the session that an answer says was begun, or 0.
-fn number_told(told: &Told) -> u32
+fn number_told(told: &KeptAnswer) -> u32
     ensures { result ≡ number_told told.now }
 {
     match told {
-        Told::Begun(at) => at.number(),
+        KeptAnswer::Begun(at) => at.number(),
         _ => 0,
     }
 }
