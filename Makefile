@@ -60,8 +60,8 @@ help:
 	@echo 'make image    a container image of the built program, under dist/ (no base image is pulled)'
 	@echo 'make dist     a tar under dist/: the program in both forms, deploy/, the pages, the license, and the sums of all'
 	@echo
-	@echo 'make test     everything that must hold: proofs from nothing, must-fail edits (wrong programs, which the prover must refuse), tests,'
-	@echo '              the checks of the repository; an hour or two'
+	@echo 'make test     everything that must hold: proofs, must-fail edits (wrong programs, which the prover must refuse), tests,'
+	@echo '              the checks of the repository; an hour or two from nothing'
 	@echo 'make check    proves what changed since the last check; make test is the judge'
 	@echo 'make edits    the further edits, which make test leaves out: some hours (MINUTES=30 some of them, by turns)'
 	@echo 'make edges    programs that the contracts allow and that a reader would not expect: the prover must accept each'
