@@ -5,7 +5,7 @@ something.
     house.py            prints the figures
     house.py WORD       prints the places behind the figure whose name begins so, such as `asks` or `wide`
 
-It refuses nothing. A figure that grows is a question for a reviewer.
+It refuses nothing. A figure that grows asks why.
 """
 import collections
 import dataclasses

@@ -58,5 +58,5 @@ In the environment:
   BLOBD_LOG=1                serve writes a line for each request to standard error, and at most
                              once a minute what it holds; 0, or not set: it doesn't.
 
-Exit status: 0 done, 1 refused, 2 no such command, 3 a fault. Standard output has one line
-that says which, standard error says more.";
+Exit status: 0 done, 1 refused, 2 no such command or a bad variable, 3 a fault. Standard error
+says more.";

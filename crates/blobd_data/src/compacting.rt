@@ -258,7 +258,7 @@ fn sweep_by<D: Disk + Drop, S: Shelf + Drop>(
 /// server has it, its bodies are missing, or its journal was cut before its first record. `BrokenJournal`: the journal
 /// ends as no crash leaves it; a start may mend it. `Fresh`: the new journal can't be made. `Compact`: the old one has
 /// another format, another version or other limits, it can't be read, or a record of it can't be run again; or the new
-/// one can't be written or isn't the same; or there is no memory. Behind these no record of the directory is changed,
+/// one can't be written or isn't the same; or there is no memory. After these no record of the directory is changed,
 /// no body goes that one names, and no more is written of the journal than its end, which a crash may have left, and
 /// the sectors between records that hid some. `Switch`: the new journal can't take the old one's place, or maybe not
 /// for good. `Sweep`: the files that no record names can't be looked for, or one can't be removed; what journal there

@@ -71,7 +71,7 @@ type FolderData<J, S, H, T> = Data<FileFrom<J>, FolderShelf<S, H>, T>;
 pub enum Damaged {
     /// It is refused.
     Refused,
-    /// It is opened without them, and without what can't be done again behind them.
+    /// It is opened without them, and without what can't be done again after them.
     Opened,
 }
 

@@ -25,7 +25,7 @@ pub record IsReply (head_only : Bool) (text : List ℕ) (status : ℕ) : Type 0 
   pub is_status : heard.status ≡ status
 
 -- The last connection of a push to this host was given back behind this request, which is the last that was written
--- over it, and behind a reply with this status, the last that was read over it.
+-- over it, and after a reply with this status, the last that was read over it.
 pub record EndsAnswered (host : List ℕ) (ask : Ask) (status : ℕ) (old new : List ConnEvent) : Type 0 where
   pub since : List ConnEvent
   -- what was written and read before
@@ -50,7 +50,7 @@ abbrev pub PrintsDigest : List ℕ → Digest → Option (List ℕ) → Option (
 PrintsDigest word digest before after = Appends before after (line (word ++ (codes " " ++ digest_text digest)))
 
 -- A push that ends with 0 was answered. `pushed` was printed behind a 201 to a close of an upload under the file's
--- digest, and `already` behind a reply to a HEAD of it that shows the file's length and no other digest; nothing came
+-- digest, and `already` after a reply to a HEAD of it that shows the file's length and no other digest; nothing came
 -- behind either on any connection.
 abbrev pub PushesAreAnswered : Type 0
 PushesAreAnswered =

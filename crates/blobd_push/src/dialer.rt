@@ -49,7 +49,7 @@ type Wire<'r, D> = WireTransport<
     CountedHalf<'r, <D as Dials>::Out>,
 >;
 
-/// The asks of one push, over a connection to its server. After a fault, and behind a reply that ends it, the
+/// The asks of one push, over a connection to its server. After a fault, and after a reply that ends it, the
 /// connection is given back, and the next ask makes another.
 #[derive(Drop)]
 pub(crate) struct Dialer<'r, D: Dials, R> {
@@ -240,7 +240,7 @@ impl<'r, D: Dials + Drop, R> Dialer<'r, D, R> {
         }
     }
 
-    /// Asks for a blob by a HEAD over a new connection, which is given back behind it.
+    /// Asks for a blob by a HEAD over a new connection, which is given back after it.
     fn look(&mut self, buffer: &mut ReadBuffer, ask: &Ask, marks: Marks<'_>) -> Sight
         requires writable { CanBeWritten ask.now }
         requires empty { buffer.old ≡ [] }

@@ -9,7 +9,7 @@ use std::{fmt, io};
 /// How many bytes of a server's own words are kept.
 const LONGEST: usize = 240;
 
-/// Behind how long a server that can't serve is told, in milliseconds.
+/// After how long a server that can't serve is told, in milliseconds.
 const TOLD_MILLIS: u64 = 5_000;
 
 /// What a server says of why it refuses or can't serve, as far as it is kept.
@@ -116,7 +116,7 @@ impl Notes {
         self.message.set(Message::none());
     }
 
-    /// A request begins at this moment behind one that was heard.
+    /// A request begins at this moment after one that was heard.
     pub(crate) fn begin(&self, begun: Option<Instant>) {
         self.begun.set(begun);
     }

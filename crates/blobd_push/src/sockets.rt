@@ -156,8 +156,8 @@ impl<'r, R: Eprint> Socket<'r, R> {
 
     /// Writes, and again while the peer takes nothing, for half a minute at most. A server may reply before it has
     /// taken all, and read no more: what is left is never taken then. So each second that it waits a write looks
-    /// whether something has come, and fails if so, as one to a peer that has closed: the reply is read behind it.
-    /// Behind half a minute nothing more is waited for.
+    /// whether something has come, and fails if so, as one to a peer that has closed: the reply is read after it.
+    /// After half a minute nothing more is waited for.
     fn write_in_time(&mut self, buf: &[u8]) -> io::Result<usize>
         ensures bound { IfOk result (λ n. n ≤ length buf.now) }
         ensures moved { self.new.moved ≡ self.old.moved }
@@ -206,7 +206,7 @@ impl<'r, R: Eprint> Outlet for Socket<'r, R> {
     }
 }
 
-/// Ends the reads of a connection that move no byte for as long as `silence`, and its writes behind each look: they
+/// Ends the reads of a connection that move no byte for as long as `silence`, and its writes after each look: they
 /// fail. It isn't zero.
 fn end_silence(stream: &TcpStream, silence: Duration) -> io::Result<()>
     ensures { as_nanos silence ≡ 0 → IsErr result }
@@ -293,7 +293,7 @@ where
 pub(crate) struct Sockets<'r, R: Eprint> {
     rt: &'r R,
     waits: Waits,
-    /// Whether a dial goes on while nobody listens: not behind one that did so in vain.
+    /// Whether a dial goes on while nobody listens: not after one that did so in vain.
     patient: bool,
     /// For contracts alone.
     history: ConnHistory<Socket<'r, R>, Socket<'r, R>>,
@@ -345,7 +345,7 @@ impl<'r, R: Net<Stream = TcpStream> + Clock + Eprint> Dials for Sockets<'r, R> {
 /// - `fault: memory`, 3; and 3 if the line can't be printed.
 ///
 /// If nobody listens at `addr`, one ask goes on dialing for up to a minute, so that a server may be started again
-/// meanwhile. If that was in vain, it is one ask that wasn't heard, and those behind it dial once each.
+/// meanwhile. If that was in vain, it is one ask that wasn't heard, and those after it dial once each.
 ///
 /// Standard error says more of what was refused, and that the server is waited for and for how long still, once it was
 /// silent, or wasn't there, for five seconds. If it is a terminal, and so `seen`, a bar stands there meanwhile.

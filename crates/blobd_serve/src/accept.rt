@@ -71,7 +71,7 @@ impl<'a, L: Accepts, R> Model for Accepted<'a, L, R> {
     ghost invariant = { λ a. a.is_lent ≡ false → L.is_free a.door };
 }
 
-/// What is done behind an accept that failed so.
+/// What is done after an accept that failed so.
 fn step_after(error: &io::Error) -> Step {
     step_behind(error.raw_os_error().map_or(0, i32::unsigned_abs))
 }
@@ -135,7 +135,7 @@ impl<'a, L: Accepts + Drop, R: Clock + Eprint + Wait> Accepted<'a, L, R> {
         }
     }
 
-    /// Waits a little behind this error. The first is told, and no other: nobody may read it.
+    /// Waits a little after this error. The first is told, and no other: nobody may read it.
     fn wait(&mut self, error: &io::Error)
         ensures { self.new ≡ self.old }
     {
@@ -187,7 +187,7 @@ impl<'a, L: Accepts + Drop, R: Clock + Eprint + Wait> Accepted<'a, L, R> {
         if self.is_lent {
             return Err(io::Error::from(ErrorKind::ResourceBusy));
         }
-        // Behind the accept nothing fails: no connection that came is dropped.
+        // After the accept nothing fails: no connection that came is dropped.
         let (read, write) = (self.turn.share()?, self.turn.share()?);
         let (source, sink) = self.next_ends()?;
         self.turn.begin();
@@ -209,7 +209,7 @@ where
 
     type Out = Writer<'a, L, R>;
 
-    // One fewer is left behind each that it gives. That one was accepted, nothing was read or written over it, and of
+    // One fewer is left after each that it gives. That one was accepted, nothing was read or written over it, and of
     // its client is asked what is asked of each. If it gives none, none was accepted.
     ghost gives = { λ old given new. MatchOption given
         (L.history new.door ≡ L.history old.door)

@@ -184,9 +184,9 @@ impl Closing {
     }
 
     /// Closes a connection that is served. Its peer reads the end at once, and the rest is left to the thread. If the
-    /// peer still sends, as behind a refused head, a close at once would reset the connection, and the peer's system
+    /// peer still sends, as after a refused head, a close at once would reset the connection, and the peer's system
     /// would drop the reply that it hasn't read. So what comes is read and dropped until the peer closes, is silent for
-    /// half a second, or has sent for five seconds, or until 256 others came behind it. If there is no thread, or too
+    /// half a second, or has sent for five seconds, or until 256 others came after it. If there is no thread, or too
     /// many wait for it, it is closed outright.
     pub(crate) fn close<R: Wait>(&self, rt: &R, stream: TcpStream) {
         // An error means that the peer has gone.

@@ -88,7 +88,7 @@ where
 }
 
 /// Serves connections as [`serve_over`](crate::serve_over) does, from this service on, each change of which is kept
-/// before anybody hears of it. Hands the doors back, and what kept the changes, unless they are lost behind a fault.
+/// before anybody hears of it. Hands the doors back, and what kept the changes, unless they are lost after a fault.
 /// See [`run_serve_kept`](crate::run_serve_kept). What was served was read and written over the connections that were
 /// accepted there, `terms.count` at each door if `served` is printed; and of that just what changed something was kept.
 pub fn serve_kept_over<'a, L, R, K, W>(

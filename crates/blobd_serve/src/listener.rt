@@ -1,6 +1,6 @@
 //! The connections of `blobd serve`: sockets that a listener accepts. No contract can say what a socket gives and
 //! takes: that what is noted here is what the system's calls moved is to be read in this file, and in no other of this
-//! crate but `closing`, where each goes behind its last reply.
+//! crate but `closing`, where each goes after its last reply.
 ghost use Rattle.std.specs.Prelude.{◌≡◌, ◌<◌, ◌≤◌, [], All, IfOk, false, vec_len};
 ghost use Rattle.upload_intake.specs.Pools.Working.{lending, means};
 ghost use Rattle.upload_intake.specs.Safety.{Leads};
@@ -266,7 +266,7 @@ where
 /// A fault is printed in place of the line that would come next, and has status 3: `fault: listen` if the local
 /// address can't be told, `fault: log` if a log is wanted and its thread can't be made or its lines find no memory,
 /// `fault: random` if a generator of secrets can't be made, `fault: workers` if the workers couldn't be started
-/// (once those that were started have ended, which each does behind the first request that comes to it), and
+/// (once those that were started have ended, which each does after the first request that comes to it), and
 /// `fault: accept` if a worker couldn't take a connection, once the others have ended too; that one is told on
 /// standard error at once. A line that can't be printed ends the program with status 3.
 pub fn run_serve<'a, R, W>(rt: &'a R, listener: &'a TcpListener, terms: Terms, out: &mut W) -> u8

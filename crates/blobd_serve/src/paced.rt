@@ -65,7 +65,7 @@ impl Pace {
         demand.window.saturating_sub(self.waited)
     }
 
-    /// The pace behind a read or a write for which the client was waited for so many microseconds, and which moved so
+    /// The pace after a read or a write for which the client was waited for so many microseconds, and which moved so
     /// many bytes. `None`: the client is too slow.
     pub(crate) fn after(self, demand: Demand, waited: u64, moved: u64) -> Option<Pace>
         ensures { result ≡ pace_after demand self waited moved }
@@ -194,7 +194,7 @@ impl<'a, R: Clock> Watch<'a, R> {
         }
     }
 
-    /// Counts a call that began then, behind which the pace was this, and which moved so many bytes.
+    /// Counts a call that began then, after which the pace was this, and which moved so many bytes.
     fn moved(&mut self, pace: Pace, begun: Option<Instant>, count: usize) {
         let waited = self.waited_since(begun);
         self.pace = pace.after(

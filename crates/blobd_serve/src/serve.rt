@@ -104,7 +104,7 @@ pub(crate) fn print_end<W: Write>(out: &mut W, took: bool) -> u8
 
 /// Serves connections that come to these doors: each has a worker of its own, and a new service is behind them all.
 /// Prints `listening` and the address, and `served` after the last connection; gives the exit status, and hands the
-/// doors back, unless they are lost behind a fault. See [`run_serve`](crate::run_serve). What was served was read and
+/// doors back, unless they are lost after a fault. See [`run_serve`](crate::run_serve). What was served was read and
 /// written over the connections that were accepted there, `terms.count` at each door if `served` is printed.
 pub fn serve_over<'a, L, R, W>(
     rt: &'a R,

@@ -56,7 +56,7 @@ impl Shutter {
     /// Ends the server. Each accept that waits fails, and each later one; and no read or write is made again.
     fn shut(&self) {
         self.ended.end();
-        // If that failed, a worker would end behind the next connection that comes to it.
+        // If that failed, a worker would end after the next connection that comes to it.
         let _ = self.listener.shutdown(Shutdown::Both);
     }
 }

@@ -1,4 +1,4 @@
-//! What a worker does behind an accept that failed.
+//! What a worker does after an accept that failed.
 ghost use Rattle.std.specs.Prelude.{◌≡◌};
 ghost use Rattle.blobd_serve.specs.Steps.{step_behind};
 
@@ -35,7 +35,7 @@ const EHOSTDOWN: u32 = 112;
 
 const EHOSTUNREACH: u32 = 113;
 
-/// What a worker does behind an accept that failed.
+/// What a worker does after an accept that failed.
 #[derive(Clone, Copy, Debug, PartialEq, Eq)]
 pub(crate) enum Step {
     /// It accepts again: the error is that of a connection that had ended before it was accepted, or a signal came.
@@ -46,7 +46,7 @@ pub(crate) enum Step {
     Stop,
 }
 
-/// What is done behind the system's error of this number; 0 is an error without one.
+/// What is done after the system's error of this number; 0 is an error without one.
 pub(crate) fn step_behind(error: u32) -> Step
     ensures { result ≡ step_behind error }
 {

@@ -40,7 +40,7 @@ pub(crate) struct SinceStart<'a, R> {
 }
 
 impl<'a, R: Clock> SinceStart<'a, R> {
-    /// The clock begins now, behind so many seconds.
+    /// The clock begins now, after so many seconds.
     pub(crate) fn behind(
         rt: &'a R,
         before: u64,

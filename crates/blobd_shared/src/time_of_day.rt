@@ -67,7 +67,7 @@ fn date_behind(days: u64) -> Option<Date> {
     None
 }
 
-/// So many seconds behind the start of 1970, as RFC 3339 writes it in UTC: `2026-11-26T18:29:27Z`. Behind the year 9999
+/// So many seconds after the start of 1970, as RFC 3339 writes it in UTC: `2026-11-26T18:29:27Z`. After the year 9999
 /// it is `-`.
 #[derive(Clone, Copy)]
 pub struct TimeOfDay(pub u64);

@@ -163,7 +163,7 @@ pub record ReadsAnswer
   pub found : FindsAnswer head_only (old.held ++ given) new r keep
 
 -- what contracts see of a reader of replies: its input, whether a fault ended the reading, and whether the connection
--- stays behind the reply that was read last
+-- stays after the reply that was read last
 pub record AnswerReaderState : Type 0 where
   pub input : InputState
   pub ended : Bool

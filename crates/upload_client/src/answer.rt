@@ -268,7 +268,7 @@ impl<S: ByteSource> AnswerReader<S> {
         Ok(reply.heard)
     }
 
-    /// Whether the connection stays behind the reply that was read last: its version is HTTP/1.1, no `Connection` field
+    /// Whether the connection stays after the reply that was read last: its version is HTTP/1.1, no `Connection` field
     /// lists `close`, and its body doesn't go to the end of the input (RFC 9112, sections 6.3 and 9.3). `true` before
     /// the first reply; behind a fault it says nothing.
     pub fn keeps_connection(&self) -> bool
@@ -285,7 +285,7 @@ impl<S: ByteSource> AnswerReader<S> {
         source
     }
 
-    /// Whether nothing was read behind that reply.
+    /// Whether nothing was read after that reply.
     pub(crate) fn holds_none(&self) -> bool
         ensures { result ≡ (length self.now.input.held == 0) }
     {

@@ -16,7 +16,7 @@ use std::marker::Model;
 use upload_names::Bytes;
 use upload_service::Ask;
 
-/// Asks as requests over a writer, and hears the replies of a reader. After a fault of either, behind a reply that
+/// Asks as requests over a writer, and hears the replies of a reader. After a fault of either, after a reply that
 /// doesn't keep the connection, and if a byte was read before the next request was written, it writes nothing and
 /// hears nothing.
 ///

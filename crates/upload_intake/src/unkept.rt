@@ -65,7 +65,7 @@ impl NoKeeping {
         }
     }
 
-    // Behind what a keeper did so far.
+    // After what a keeper did so far.
     fn behind(keeper: &Keeper) -> NoKeeping
         ensures follows { Follows (start_of result) (kept_by result) (last_of result) keeper.now }
         ensures waiting { waiting_at result ≡ [] }

@@ -92,7 +92,7 @@ impl<C: Conns, S: Secrets, G: Gate, O: Observer> Promise<Leaving<C, S, G, O>> fo
         promise.station.value leaving };
 }
 
-/// Serves a worker's connections one after the other, none behind one that ended `DeskGone`, and finishes its seat. One
+/// Serves a worker's connections one after the other, none after one that ended `DeskGone`, and finishes its seat. One
 /// server serves them all, so that none is turned away for lack of one. A large body is hashed in threads, beside
 /// its reading, and written into a file of the spool, if there is one.
 fn serve_seat<R, C, S, G, O>(

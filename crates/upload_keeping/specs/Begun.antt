@@ -61,7 +61,7 @@ module _ {D S F : Type 0} {g : Ghosts D} {s : shelves.Ghosts S F} {f : Ghosts F}
       NoBody NoRecord Never
 
   -- why none begins over a store, also without what is lost: a recovery gives up, of the records only by a want of
-  -- memory, or the entry behind the losses isn't noted
+  -- memory, or the entry after the losses isn't noted
   abbrev pub BeginsNot : Store D S F g s f → StoreFault → Type 0
   BeginsNot store fault =
       ((disk : D) × (shelf : S) × GivesUp LacksMemory store disk shelf fault)

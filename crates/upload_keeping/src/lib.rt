@@ -1,7 +1,7 @@
 //! What changes a service, kept in a store: each request that changed something, before its answer is heard.
 //!
 //! A request is noted before the step that takes it (`note`, `noted`). Its entry is written up to its answer then, and
-//! ended behind the step (`entry`), which rests on what is known of each request (`sound`). A large body is on the disk
+//! ended after the step (`entry`), which rests on what is known of each request (`sound`). A large body is on the disk
 //! before the step, mostly by a thread that has written it meanwhile (`writing`), and there is room for the entry: so a
 //! full disk is known before anything changes. The entries of a round are put on the disk at once (`round`), with the
 //! moment up to which answers may be given.

@@ -30,7 +30,7 @@ pub struct Moments {
     pub upto: u64,
 }
 
-/// Puts a promise into a batch if the last moment isn't promised yet: of the moments up to a minute behind it. Says up
+/// Puts a promise into a batch if the last moment isn't promised yet: of the moments up to a minute after it. Says up
 /// to which one moments are promised then.
 fn promise(batch: &mut Batch, moments: Moments) -> Result<u64, AllocError>
     ensures reaches { IfOk result (λ next. (moments.last ≤ next) × (moments.upto ≤ next)) }
@@ -47,7 +47,7 @@ fn promise(batch: &mut Batch, moments: Moments) -> Result<u64, AllocError>
 }
 
 /// Puts a batch on the disk at once, with the time of day in seconds since 1970, and empties it. If the last moment of
-/// the round isn't promised, the batch promises the moments up to a minute behind it. Says up to which moment answers
+/// the round isn't promised, the batch promises the moments up to a minute after it. Says up to which moment answers
 /// may be given then, on the disk.
 ///
 /// After an error the store isn't to be used any more.
@@ -87,7 +87,7 @@ pub fn keep_round<D: Disk, S: Shelf>(
     }
 }
 
-/// What is kept is on the disk: every crash leaves what a store had as it was opened, and behind it the entries of just
+/// What is kept is on the disk: every crash leaves what a store had as it was opened, and after it the entries of just
 /// what was kept since, in order and each once, each with its whole body; and the moments that were promised.
 pub fn kept_is_on_the_disk<D: Disk, S: Shelf>(store: &Store<D, S>)
     ensures { LeavesJustThat store.now }

@@ -55,7 +55,7 @@ fn use_up<D: Disk, S: Shelf>(
     }
 }
 
-/// Notes behind losses which numbers are used up: those of lost records, and as many as these may have had. So each
+/// Notes after losses which numbers are used up: those of lost records, and as many as these may have had. So each
 /// later start comes to the same numbers, and to those of what is kept from now on.
 fn note<D: Disk, S: Shelf, H: KeepingHost>(
     alloc: Global,
@@ -131,7 +131,7 @@ pub(crate) fn begin_without<D: Disk + Drop, S: Shelf + Drop, H: KeepingHost + Dr
 /// Opens a store as `open` does, and without the records that can't be run again: a damaged journal or shelf loses what
 /// is damaged, and what can't be done without it (`Store::salvage`). If nothing is lost, it is `open`.
 ///
-/// Behind losses an entry is noted, by which no number of theirs comes again; and no later body gets the number of a
+/// After losses an entry is noted, by which no number of theirs comes again; and no later body gets the number of a
 /// file that a record names.
 ///
 /// An error is one of `Store::salvage`, or says why that entry can't be noted. The store is dropped then.

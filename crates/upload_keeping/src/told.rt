@@ -8,8 +8,8 @@ use sqlite_disk::Disk;
 
 /// What anybody heard as an answer is in what every crash leaves, and each recovery of that has it. The answer may be
 /// heard, by the contract of a pool's keeper, as this keeping stood at that moment or at an earlier one: then the
-/// service that is recovered is the one before all, behind what was kept then, in order and with the same answers, and
-/// behind what was kept since. If the answer tells of a change, that change is among the former. It goes on at a moment
+/// service that is recovered is the one before all, after what was kept then, in order and with the same answers, and
+/// after what was kept since. If the answer tells of a change, that change is among the former. It goes on at a moment
 /// before which nothing was answered.
 ///
 /// It is said of a keeping that has begun without a loss (`StoreKeeping::is_whole`).

@@ -111,7 +111,7 @@ impl Census {
         }
     }
 
-    /// Notes an entry behind those before it. At `Err` there is no memory, and nothing is noted.
+    /// Notes an entry after those before it. At `Err` there is no memory, and nothing is noted.
     ///
     /// The answer that is recorded tells what the entry did, and how long the bodies are the entries tell. So a mount
     /// stores no other blob, and an upload that is idle stays until the table is full, as in the service.

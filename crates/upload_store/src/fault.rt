@@ -12,7 +12,7 @@ pub struct RefusedRecord {
     pub fault: ReplayFault,
 }
 
-/// A record that is lost, since it can't be run again behind those before it.
+/// A record that is lost, since it can't be run again after those before it.
 #[derive(Drop)]
 pub struct Loss {
     /// The time of its batch, in seconds since 1970.

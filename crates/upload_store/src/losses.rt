@@ -86,7 +86,7 @@ fn list(listed: &mut Vec<Loss>, loss: Loss) -> Result<(), AllocError>
     Ok(())
 }
 
-/// What a recovery that goes on behind losses has come to.
+/// What a recovery that goes on after losses has come to.
 #[derive(Drop)]
 pub struct Salvage {
     /// The service, and the moment to go on at.

@@ -1,4 +1,4 @@
-//! The records of a journal, run through a service again, behind records that can't be.
+//! The records of a journal, run through a service again, after records that can't be.
 ghost use Rattle.std.specs.Prelude.{◌≡◌, ◌↔◌, IfOk, OnOk, IsTrue};
 ghost use Rattle.std.specs.Result.{result_ok};
 ghost use Rattle.upload_journal.specs.Entries.{entry_of, legible_of};

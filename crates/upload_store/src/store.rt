@@ -385,7 +385,7 @@ impl<D: Disk, S: Shelf> Store<D, S> {
             → AreSafe S.Shelf.held S.Shelf.may_leave (shelf_of self.old) (batch_records batch.now)
             → IsWhole self.new }
 
-        // Whatever the call met, a crash leaves the entries from before it, each with its bodies, and behind them the
+        // Whatever the call met, a crash leaves the entries from before it, each with its bodies, and after them the
         // whole batch or nothing of it.
         ensures any_crash { IsTrue (is_open self.old) → IsClean self.new
             → IsWhole self.old
@@ -532,11 +532,11 @@ impl<D: Disk, S: Shelf> Store<D, S> {
         Ok(mem::replace(&mut self.run.rerun.replay, fresh))
     }
 
-    /// Opens the store, as `recover` does, and goes on behind a record that can't be run again: a damaged journal or
+    /// Opens the store, as `recover` does, and goes on past a record that can't be run again: a damaged journal or
     /// shelf loses what is damaged, and what can't be done without it.
     ///
     /// A record counts if it does what it did, and else it is lost, by a cause at its place. A session gets the number
-    /// that it had, also behind a lost one. No later session gets a number that a lost record names or may have had,
+    /// that it had, also after a lost one. No later session gets a number that a lost record names or may have had,
     /// and no later body that of a file that a record names. Nothing is lost of what `recover` could run, unless a
     /// call of the shelf fails.
     pub fn salvage(&mut self, alloc: Global) -> Result<Salvage, StoreFault>
