@@ -20,7 +20,7 @@ import sys
 import tempfile
 
 from edits import copied
-from repository import TOP, text_of, tracked
+from files import text_of, tracked
 from wrong_bodies import edited
 
 HEAD = re.compile(r"\A# does: .+\n# allowed by: .+\n")

@@ -15,7 +15,7 @@ import subprocess
 import sys
 import time
 
-from functions import TOP
+from files import TOP
 
 TICKS = os.sysconf("SC_CLK_TCK")
 # the check of an edit: its crate, and its place among the crate's sorted edits

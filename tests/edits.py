@@ -21,7 +21,7 @@ import sys
 import tempfile
 import time
 
-from repository import TOP, text_of, tracked
+from files import TOP, text_of, tracked
 from wrong_bodies import FOLDERS
 
 # the last edit that was tried by turns

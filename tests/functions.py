@@ -3,7 +3,7 @@ import dataclasses
 import os
 import re
 
-TOP = os.path.dirname(os.path.dirname(os.path.abspath(__file__)))
+from files import TOP
 
 # What the program is made of beside the libraries: no other crate stands on these.
 PROGRAM = {"blobd", "blobd_data", "blobd_push", "blobd_serve", "blobd_shared"}

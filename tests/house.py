@@ -14,7 +14,7 @@ import re
 import sys
 
 import definitions
-from repository import TOP, text_of, tracked
+from files import TOP, text_of, tracked
 
 MOST_ARGUMENTS = 5
 MOST_PARAMETERS = 4

@@ -6,51 +6,23 @@ Prints a line for each check, and 'N passed, M failed' as the last. Exit status 
 import collections
 import os
 import re
-import subprocess
 import sys
 
 import definitions
 import functions
+import pages
 import stored
 import wrong_bodies
-from functions import PROGRAM, TOP
+from files import TOP, text_of, tracked
+from functions import PROGRAM
 
 HANDLES = "Handles allowed: Threads, Wait, Net.\n"
 
 HOLE = re.compile(r"(=\s*\?|[( ]\?[ ),]|\?\s*$)")
-# A link of a page, and a heading that one may lead to.
-LINK = re.compile(r"\]\(([^)\s]+)\)")
-HEADING = re.compile(r"^#+ (.*)$", re.MULTILINE)
-FENCED = re.compile(r"^```.*?^```", re.MULTILINE | re.DOTALL)
-
-# The contracts of the service, which name the headline, and a row of README that says how many lines a file of the
-# definitions has that it rests on.
-SERVICE = "crates/upload_service/src/service.rt"
-COUNTED = re.compile(r"^\|.*\]\((crates/\S+\.antt)\).*\| (\d+) \|$", re.MULTILINE)
-
-# The page of promises, and what the cells name that say where a promise stands: a function and clauses of it, or a
-# file.
-PROMISES = "docs/PROMISES.md"
-NAMED = re.compile(r"`([^`]+)`")
-FUNCTION = re.compile(r"(?:[\w]+::)*(\w+)(?:: ([\w, ]+))?")
-PLACE = re.compile(r"[\w/]+\.(?:rt|antt|py)|[\w/]+/")
-WORD = re.compile(r"\w+")
-
-# The page of wrong bodies, and its rows of known mistakes.
-WRONG_BODIES = "docs/WRONG-BODIES.md"
-KNOWN_MISTAKE = re.compile(r"^\| ((?:`\w+`(?:, )?)+) \| `(\w+)` \|", re.MULTILINE)
 
 # How many edits `make test` tries at most. Each takes a proof of its crate, which is 20 seconds to 10 minutes of a
 # processor: 270 of them took half of the gate's time.
 MOST_TRIED = 170
-
-# The page on using the crates, and what it shows of the two programs that do.
-USING = "docs/USING.md"
-SHOWN = re.compile(r"crates/embed_\w+/(src/\w+\.rt|specs/(?!Lib\.)\w+\.antt)")
-
-# The pages for users who know uploads, and no sessions: of those that aren't about the code.
-OF_UPLOADS = ("CHANGELOG.md", "docs/OPERATIONS.md", "docs/TROUBLES.md", USING)
-SESSION = re.compile(r"\bsessions?\b")
 
 # Settings of the C library's memory. A record of figures has those that they were measured with.
 TUNED = re.compile(r"glibc\.malloc\.hugetlb=[\w.:=]+")
@@ -111,19 +83,6 @@ NO_CLAUSE = {
     "blobd_serve": {"Holdings::of", "Holdings::look", "time_now", "Fullness::new", "Fullness::share", "Fullness::tells"},
     "blobd": {"print_status", "run_compact", "usual_memory"},
 }
-
-
-def tracked():
-    listed = subprocess.run(["git", "ls-files", "-z"], cwd=TOP, capture_output=True, check=True)
-    return [path for path in listed.stdout.decode().split("\0") if path]
-
-
-def text_of(path):
-    try:
-        with open(os.path.join(TOP, path), encoding="utf-8") as file:
-            return file.read()
-    except (UnicodeDecodeError, FileNotFoundError):
-        return ""
 
 
 def holes(paths):
@@ -237,154 +196,9 @@ def headless(_):
     return found + [f"{edit.path} has no line '# breaks: ..'" for edit in edits if not edit.breaks]
 
 
-def unlisted(_):
-    """Known mistakes that the page of wrong bodies lacks, and those there that no must-fail edit makes."""
-    rows = KNOWN_MISTAKE.findall(text_of(WRONG_BODIES))
-    listed = {(crate, name) for names, crate in rows for name in NAMED.findall(names)}
-    known = {(edit.crate, edit.name) for edit in wrong_bodies.edits() if edit.is_known}
-    return [f"{WRONG_BODIES}: {name} of {crate}" for crate, name in sorted(listed ^ known)]
-
-
 def unapplied(paths):
     """Edits that the sources have left behind."""
     return [path for path in paths if path.endswith(".edit") and wrong_bodies.edited(path) is None]
-
-
-def anchors(text):
-    """The anchors of a page's headings, as GitHub makes them."""
-    return {
-        re.sub(r"[^\w -]", "", heading.lower()).replace(" ", "-") for heading in HEADING.findall(FENCED.sub("", text))
-    }
-
-
-def unlinked(paths):
-    """Relative links of pages that lead nowhere."""
-    found = []
-    for page in (path for path in paths if path.endswith(".md")):
-        for link in LINK.findall(FENCED.sub("", text_of(page))):
-            if re.match(r"[a-z]+:", link):
-                continue
-            place, _, anchor = link.partition("#")
-            target = os.path.normpath(os.path.join(os.path.dirname(page), place)) if place else page
-            if not os.path.exists(os.path.join(TOP, target)) or (anchor and anchor not in anchors(text_of(target))):
-                found.append(f"{page}: {link} leads nowhere")
-    return found
-
-
-def clauses_by_function(paths):
-    """The names of the clauses that stand behind each function of the crates, by its name."""
-    found = {}
-    for path in (path for path in paths if path.startswith("crates/") and path.endswith(".rt")):
-        for part in re.split(r"\bfn (?=\w)", text_of(path))[1:]:
-            name = WORD.match(part).group()
-            found.setdefault(name, set()).update(re.findall(r"\bensures (\w+) ", part))
-    return found
-
-
-def cells_under(page, *headings):
-    """The cells of the page's tables that stand under these headings, each with its line's number."""
-    column = None
-    for number, line in enumerate(page.splitlines(), 1):
-        cells = [cell.strip() for cell in line.split("|")[1:-1]]
-        heads = [at for at, cell in enumerate(cells) if cell in headings]
-        column = heads[0] if heads else column if cells else None
-        if cells and column is not None and not heads and set(line) - set("|- "):
-            yield number, cells[column]
-
-
-def unpromised(paths):
-    """Names in the table of promises of functions, clauses, definitions or files that aren't there."""
-    clauses = clauses_by_function(paths)
-    words = set(
-        WORD.findall(
-            " ".join(text_of(path) for path in paths if path.startswith("crates/") and path.endswith((".rt", ".antt")))
-        )
-    )
-    found = []
-    for number, cell in cells_under(text_of(PROMISES), "Contract", "Law"):
-        for name in NAMED.findall(cell):
-            function = FUNCTION.fullmatch(name)
-            if PLACE.fullmatch(name):
-                there = any(path.endswith(name) or f"/{name}" in path for path in paths)
-            elif function and function.group(2):
-                there = set(WORD.findall(function.group(2))) <= clauses.get(function.group(1), set())
-            else:
-                there = set(WORD.findall(name)) <= words
-            if not there:
-                found.append(f"{PROMISES}:{number}: there is no {name}")
-        if not any(
-            WORD.findall(name)[-1] in clauses or ":" in name for name in NAMED.findall(cell)
-        ) and not cell.startswith(("the ", "each ")):
-            found.append(f"{PROMISES}:{number}: names no function")
-    return found
-
-
-def long_rows(_):
-    """Rows of the promises that are longer than two lines."""
-    return [
-        f"{PROMISES}:{number}: {len(line)} characters"
-        for number, line in enumerate(text_of(PROMISES).splitlines(), 1)
-        if line.startswith("|") and len(line) > 240
-    ]
-
-
-def untested(paths):
-    """Tests and scripts that the pages name as what refuses or shows something, and that aren't there."""
-    scripts = [path for path in paths if path.endswith((".rt", ".py"))]
-    words = set(WORD.findall(" ".join(text_of(path) for path in scripts)))
-    found = []
-    for page in (PROMISES, WRONG_BODIES):
-        for number, cell in cells_under(text_of(page), "Tests", "Test"):
-            for name in NAMED.findall(cell):
-                begins = name.removesuffix("..")
-                if PLACE.fullmatch(name):
-                    there = any(path.startswith(name) for path in paths)
-                elif begins != name:
-                    there = any(word.startswith(begins) for word in words)
-                else:
-                    there = (
-                        " " in name or set(WORD.findall(name)) <= words | set(os.listdir(os.path.join(TOP, "crates")))
-                    )
-                if not there:
-                    found.append(f"{page}:{number}: there is no {name}")
-    return found
-
-
-def contract_of(path, name):
-    """The contract of a function in a file of code."""
-    return re.search(rf"\bfn {name}\b.*?^    \{{", text_of(path), re.MULTILINE | re.DOTALL).group()
-
-
-def imported(path):
-    """The repository's own files of definitions that a file takes names from, each with the names."""
-    for module, names in definitions.taken(text_of(path)):
-        place = f"crates/{module.replace('.', '/')}.antt"
-        if os.path.exists(os.path.join(TOP, place)):
-            yield place, names
-
-
-def definitions_behind_the_headline():
-    """The files that define what the contracts of the service name, and all that these files import."""
-    contracts = set(definitions.words("".join(contract_of(SERVICE, name) for name in ("step", "run_all"))))
-    left = [place for place, names in imported(SERVICE) if contracts & set(names)]
-    found = set()
-    while left:
-        place = left.pop()
-        if place not in found:
-            found.add(place)
-            left += [place for place, _ in imported(place)]
-    return found
-
-
-def miscounted(_):
-    """The definitions that the headline rests on, if README lists others, or other counts of their lines."""
-    readme = text_of("README.md")
-    rows = {(path, int(count)) for path, count in COUNTED.findall(readme)}
-    real = {(path, len(text_of(path).splitlines())) for path in definitions_behind_the_headline()}
-    found = [f"README.md: no row is {path} with {count} lines" for path, count in sorted(real - rows)]
-    found += [f"README.md: {path} with {count} lines isn't so" for path, count in sorted(rows - real)]
-    said = f"{len(real)} files, {sum(count for _, count in real)} lines in all"
-    return found if said in " ".join(readme.split()) else [*found, f"README.md: they are {said}"]
 
 
 def stands_on(crate):
@@ -433,26 +247,6 @@ def unversioned(paths):
     return found if re.fullmatch(r"[0-9]+\.[0-9]+\.[0-9]+", version) else [*found, "VERSION isn't a version"]
 
 
-def unshown(paths):
-    """Files of the programs that use the crates which the page on that doesn't show word for word."""
-    page = text_of(USING)
-    return [
-        f"{USING} doesn't show {path} as it is"
-        for path in paths
-        if SHOWN.fullmatch(path) and f"\n{text_of(path)}```\n" not in page
-    ]
-
-
-def called_sessions(_):
-    """Lines of pages for users that call an upload a session, as the code and the proofs do."""
-    return [
-        f"{path}:{number}: {line.strip()}"
-        for path in OF_UPLOADS
-        for number, line in enumerate(text_of(path).splitlines(), 1)
-        if SESSION.search(line)
-    ]
-
-
 def disturbed(_):
     """Stored connections that the model answers otherwise, and rows that aren't those that are made of them."""
     found = [f"tests/connections/{stem}: the model answers otherwise" for stem in stored.unlike_the_model()]
@@ -489,18 +283,18 @@ CHECKS = [
     ("every public function that decides something has an edit that breaks it", unbroken),
     ("must-fail/ has something of each crate that decides, and no more than the gate has time for", overtried),
     ("every edit says what it does wrong and what it breaks", headless),
-    ("the page of wrong bodies has the known mistakes", unlisted),
+    ("the page of wrong bodies has the known mistakes", pages.unlisted),
     ("every edit applies", unapplied),
-    ("each link of a page leads somewhere", unlinked),
-    ("each row of the promises names functions and clauses that are there", unpromised),
-    ("no row of the promises is longer than two lines", long_rows),
-    ("each test that a page names is there", untested),
-    ("README lists the files that the headline rests on, with their lines", miscounted),
+    ("each link of a page leads somewhere", pages.unlinked),
+    ("each row of the promises names functions and clauses that are there", pages.unpromised),
+    ("no row of the promises is longer than two lines", pages.long_rows),
+    ("each test that a page names is there", pages.untested),
+    ("README lists the files that the headline rests on, with their lines", pages.miscounted),
     ("make watches every crate that the program is built of", unwatched),
     ("the program's crates are the program's alone", outside_the_program),
     ("the version is said once", unversioned),
-    ("the page on using the crates shows its programs as they are", unshown),
-    ("pages for users call an upload an upload", called_sessions),
+    ("the page on using the crates shows its programs as they are", pages.unshown),
+    ("pages for users call an upload an upload", pages.called_sessions),
     ("the stored connections are what the tests of disturbed streams take", disturbed),
     ("the assertions of tests are the same in each crate", unlike_copies),
     ("the C library's memory is set the same everywhere", untuned),

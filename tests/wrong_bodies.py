@@ -17,7 +17,8 @@ import os
 import re
 import sys
 
-TOP = os.path.dirname(os.path.dirname(os.path.abspath(__file__)))
+from files import TOP
+
 # the folders of edits, and what tries those in each
 FOLDERS = {"must-fail": "make test", "further-edits": "make edits"}
 HEAD = re.compile(r"# (wrong|breaks|ruled out by): *(.*)")
