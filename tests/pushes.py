@@ -20,12 +20,12 @@ import time
 
 from harness import shims
 from harness.listeners import Proxy, Scripted
+from harness.pushers import SIZES, fill, has_all
 from harness.running import (
     MIB, USAGE, Server, already, environment, halt, has_ipv6, pull, push, pushed, run, unhurried, written,
 )
 from harness.suite import OPTIONS, case, check, equal, main, skip
 from harness.wire import PATIENCE, address_of, sha256
-from serve_data import SIZES, fill, has_all
 import servers
 
 CUT_PUSHES = 50

@@ -1,6 +1,6 @@
 #!/usr/bin/env python3
 """`blobd serve` with a data directory whose disk fails: at each sync and each write of a chunk, under clients, and in a
-start; and on a disk that may only be read.
+start; on a disk that fills, is made larger and fills again; and on one that may only be read.
 
     serve_disks.py PROGRAM
 """
@@ -13,11 +13,11 @@ import tempfile
 import time
 
 from harness import shims
-from harness.pushers import Pusher, Told, held, look
-from harness.running import MIB, Repeated, SmallDisk, becomes, pull, run
+from harness.data import FILLED, LARGEST_IN_JOURNAL, REFUSED, bodies, filled, is_refused, named_losses, serving, tree
+from harness.pushers import NAME, Pusher, Told, fill, has_all, held, look
+from harness.running import MIB, Repeated, SmallDisk, becomes, run
 from harness.suite import case, check, equal, main, skip
 from harness.wire import Connection, request_text, sha256
-from serve_data import FILLED, NAME, REFUSED, filled, is_refused, named_losses, serving, tree
 
 WORKERS = 3
 # what standard error says of the call that failed
@@ -75,7 +75,7 @@ def goes_on_behind(name, path, place, size):
     """Checks that the next server has what was answered, and of the chunk that wasn't all or nothing."""
     with serving(path) as server, server.client() as client:
         equal(f"{name}: a start without a loss", server.first_line[:10], "listening ")
-        equal(f"{name}: the blobs", [pull(server, NAME, sha256(content)) for content in FILLED], FILLED)
+        has_all(f"{name}: the blobs", server, FILLED)
         found = held(client, place)
         check(f"{name}: the upload", found in ((204, 3), (204, 3 + size)), found)
         equal(f"{name}: a push", client.push(NAME, b"more")[-1], 201)
@@ -163,7 +163,81 @@ def a_start_fails(folder):
     check("there were syncs, and then a start", spared > 1 and os.path.exists(fails), spared)
     with serving(path) as server:
         equal("nothing is lost", named_losses(server), [])
-        equal("the blobs", [pull(server, NAME, sha256(content)) for content in FILLED], FILLED)
+        has_all("the blobs", server, FILLED)
+
+
+def answers_while_full(path, server, client, told, place):
+    """On a full disk what would change something is answered 503, and leaves no file. What is refused is refused as
+    ever, and what is stored is handed out. The upload has received three bytes."""
+    files = sum(len(content) > LARGEST_IN_JOURNAL for content in told)
+    equal("files of bodies", len(bodies(path)), files)
+    long = bytes(200_000)
+    requests = [
+        ("PATCH", place, b"de", {"Content_Range": "5-6"}, 416),
+        ("PATCH", place, long, {"Content_Range": "5-200004"}, 416),
+        ("PUT", f"{place}?digest={sha256(b'other')}", long, {}, 400),
+        ("PUT", f"{place}?digest=sha256:7", b"", {}, 400),
+        ("PATCH", f"{place[:-8]}00000000", long, {}, 404),
+        ("POST", f"/v2/{NAME}/blobs/uploads/?digest={sha256(b'other')}", long, {}, 400),
+        ("GET", f"/v2/{NAME}/blobs/{sha256(b'nothing')}", b"", {}, 404),
+        ("GET", "/v2/", b"", {}, 200),
+        ("PATCH", place, long, {}, 503),
+        ("PATCH", place, b"de", {}, 503),
+        ("PUT", f"{place}?digest={sha256(b'abc')}", b"", {}, 503),
+        ("POST", f"/v2/{NAME}/blobs/uploads/", b"", {}, 503),
+        ("POST", f"/v2/{NAME}/blobs/uploads/?digest={sha256(long)}", long, {}, 503),
+        ("POST", f"/v2/lib/b/blobs/uploads/?mount={sha256(told[0])}&from={NAME}", b"", {}, 503),
+    ]
+    for method, target, body, fields, status in requests:
+        equal(f"{method} {target} of {len(body)} bytes", client.ask(method, target, body, **fields).status, status)
+    equal("where the upload is", held(client, place), (204, 3))
+    equal("files of bodies behind it", len(bodies(path)), files)
+    has_all("what is stored is handed out", server, told)
+
+
+def filled_again(disk):
+    """Fills a disk twice under a server, which is killed and started in between, also while there is no room."""
+    path, told, chance = f"{disk.path}/data", [], random.Random(3)
+    with serving(path) as server, server.client() as client:
+        place = client.opened(NAME)
+        equal("a chunk", client.ask("PATCH", place, b"abc").status, 202)
+        equal("a disk that fills", fill(client, told, chance), [503] * 5)
+        check("blobs before", sum(map(len, told)) > 200 * MIB, len(told))
+        answers_while_full(path, server, client, told, place)
+        server.process.kill()
+    with serving(path) as server, server.client() as client:
+        has_all("a start on a full disk", server, told)
+        # what the server before it had tried to reserve is room in the journal now
+        equal("the disk is full soon", fill(client, told, chance), [503] * 5)
+        answers_while_full(path, server, client, told, place)
+        disk.grow(350)
+        long = chance.randbytes(200_000)
+        equal("a push once there is room", client.push(NAME, long), [202, 202, 201])
+        told.append(long)
+        equal("the upload goes on", client.ask("PUT", f"{place}?digest={sha256(b'abcde')}", b"de").status, 201)
+        told.append(b"abcde")
+        place = client.opened(NAME)
+        equal("a chunk of another", client.ask("PATCH", place, b"abc").status, 202)
+        before = len(told)
+        equal("a disk that fills again", fill(client, told, chance), [503] * 5)
+        check("blobs behind it", sum(map(len, told[before:])) > 20 * MIB, len(told))
+        answers_while_full(path, server, client, told, place)
+        server.process.kill()
+    disk.grow(400)
+    with serving(path) as server, server.client() as client:
+        has_all("behind both", server, told)
+        equal("the upload of then goes on", held(client, place), (204, 3))
+
+
+@case()
+def full_disk(folder):
+    """A disk that fills, is made larger and fills again: what would change something is answered 503, and nothing stays
+    of it. Once there is room the server goes on by itself, and behind a kill all that was told is there."""
+    with SmallDisk(folder, 300) as disk:
+        if disk.is_there:
+            filled_again(disk)
+        else:
+            skip("full_disk", "this user may mount no small disk")
 
 
 @case()
@@ -187,7 +261,7 @@ def a_disk_that_may_only_be_read(folder):
         is_refused("a directory that can't be made", os.path.join(disk.path, "other"), "")
         disk.protect(False)
         with serving(path) as server:
-            equal("the blobs", [pull(server, NAME, sha256(content)) for content in FILLED], FILLED)
+            has_all("the blobs", server, FILLED)
 
 
 if __name__ == "__main__":

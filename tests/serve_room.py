@@ -10,13 +10,12 @@ import subprocess
 import time
 
 from harness import shims
-from harness.running import FULL, Server, ask_alone, pull, run
+from harness.data import bodies, tree
+from harness.pushers import NAME, has_all, post
+from harness.running import FULL, MIB, Server, ask_alone, pull, run
 from harness.suite import OPTIONS, case, check, equal, main
 from harness.wire import sha256
-from serve_data import tree
 
-MIB = 1 << 20
-NAME = "lib/a"
 ROOM = 12 * MIB
 # what the tables take for a blob, beside its name
 ENTRY = 512
@@ -25,10 +24,6 @@ ENTRY = 512
 def serving(room=ROOM, **variables):
     env = {"BLOBD_MEMORY": room, **variables}
     return Server(env=env, stderr=subprocess.PIPE)
-
-
-def post(client, content):
-    return client.ask("POST", f"/v2/{NAME}/blobs/uploads/?digest={sha256(content)}", content).status
 
 
 def filled(client, chance, sizes):
@@ -41,11 +36,6 @@ def filled(client, chance, sizes):
             equal("what has no room", reply, 503)
             return stored
         stored.append(content)
-
-
-def has_all(server, stored):
-    wrong = [content for content in stored if pull(server, NAME, sha256(content)) != content]
-    check("what is stored is handed out", not wrong, len(wrong))
 
 
 def changes_nothing(client, chance):
@@ -71,7 +61,7 @@ def full_is_a_number():
                 held = sum(map(len, stored)) + len(stored) * (ENTRY + 2 * len(NAME))
                 check("it is filled", ROOM - max(sizes) - ENTRY - 1_000 < held <= ROOM, (held, ROOM))
                 changes_nothing(client, chance)
-                has_all(server, stored)
+                has_all("what is stored is handed out", server, stored)
 
 
 @case()
@@ -150,7 +140,7 @@ def idle_uploads(folder):
             shims.pass_time(ahead, 3_700)
             statuses = until(202, lambda: uploaded(client, content))
             equal(f"another, behind {len(statuses) - 1} that were refused", statuses[-1], 202)
-            has_all(server, [blob])
+            has_all("what is stored is handed out", server, [blob])
 
 
 @case()
@@ -169,7 +159,7 @@ def larger_than_the_room():
             stored = filled(client, chance, (100_000,))
             stored += filled(client, chance, (1_000,))
             equal("an opening", client.ask("POST", f"/v2/{NAME}/blobs/uploads/").status, 503)
-            has_all(server, stored)
+            has_all("what is stored is handed out", server, stored)
 
 
 @case()
@@ -216,7 +206,7 @@ def smaller_than_a_directory(folder):
               f"blobd: can't use {path}: it holds {size} MiB, BLOBD_MEMORY is 6.0 MiB: set BLOBD_MEMORY to more\n")
         check("nothing in it is changed", tree(path) == before)
     with serving(room="16M", BLOBD_DATA=path) as server:
-        has_all(server, stored)
+        has_all("what is stored is handed out", server, stored)
         equal("one more", ask_alone(
             server, "POST", f"/v2/{NAME}/blobs/uploads/?digest={sha256(b'more')}", b"more").status, 201)
         check("with more room it is read", not os.path.exists(unnamed))
@@ -229,12 +219,12 @@ def smaller_than_a_damaged_directory(folder):
     path = os.path.join(folder, "data")
     with serving(BLOBD_DATA=path) as server, server.client() as client:
         stored = filled(client, chance, (500_000,))
-    bodies = [name for name, body in tree(path).items() if body and os.path.basename(name) != "journal"]
-    os.remove(bodies[0])
+    paths = [os.path.join(path, body) for body in bodies(path)]
+    os.remove(paths[0])
     told = refused(path, "6M")
     first = re.match(rf"blobd: can't use {path}: it holds \S+ MiB, BLOBD_MEMORY is 6\.0 MiB: set .* to more; ", told)
     check("why, in the first line", first and "no memory for it" in told and told.count("\n") == 1, told)
-    for body in bodies[12:]:
+    for body in paths[12:]:
         os.remove(body)
     with serving(room="6M", BLOBD_DATA=path) as server:
         left = [content for content in stored if pull(server, NAME, sha256(content)) == content]

@@ -3,6 +3,9 @@
 - `suite`: cases, their checks, and the count of these
 - `running`: the program, and what it serves
 - `wire`: clients
+- `pushers`: what clients store and find again, and some that push by chance
+- `data`: data directories, servers on them, and what is spoiled in them
+- `disks`: what a power cut may leave of them
 - `registry`: the reverse proxy and the other servers of deploy/ before `blobd serve`, and their clients
 - `listeners`: what the tests let a push connect to
 - `shims`: libraries that refuse a process memory or threads, let its time pass, or watch it

@@ -1,15 +1,41 @@
-"""Clients that push, mount, resume and pull as chance has it, and note what they were told: that has to be there behind a
-kill of their server."""
+"""Clients that store blobs, fill a server with them, and look whether all are there; and some that push, mount, resume
+and pull as chance has it, and note what they were told: that has to be there behind a kill of their server."""
 import collections
 import random
 import threading
 import time
 
+from .running import MIB, pull
 from .suite import check
 from .wire import Connection, demand, named, request_text, sha256
 
+NAME = "lib/a"
+# Those of blobs that fill a disk, or a memory.
+SIZES = 20 * MIB, MIB, 100_000, 20_000, 200
 # The service has room for no more than 1,024 open uploads.
 MOST_OPEN = 200
+
+
+def post(client, content, digest_of=sha256):
+    """The status of a blob that is sent in one request."""
+    return client.ask("POST", f"/v2/{NAME}/blobs/uploads/?digest={digest_of(content)}", content).status
+
+
+def fill(client, told, chance, sizes=SIZES):
+    """Uploads blobs of the first size until one is answered otherwise than 201, then of the next, and so on. Gives the
+    last statuses."""
+    statuses = []
+    for size in sizes:
+        while (status := post(client, content := chance.randbytes(size))) == 201:
+            told.append(content)
+        statuses.append(status)
+    return statuses
+
+
+def has_all(name, server, told):
+    """Checks that these are there, byte for byte."""
+    wrong = [len(content) for content in told if pull(server, NAME, sha256(content)) != content]
+    check(name, not wrong, wrong)
 
 
 def held(client, place):

@@ -12,11 +12,10 @@ import images
 import servers
 
 from . import wire
-from .running import MIB, told_by
+from .running import KIB, MIB, told_by
 from .suite import OPTIONS, check, equal
 from .wire import sha256
 
-KIB = 1 << 10
 LOGIN = ("alice", "wonder")
 # what every reverse proxy needs
 PROXY = ("haproxy", "lua-cjson", "openssl")

@@ -16,7 +16,7 @@ import servers
 from .suite import OPTIONS
 from .wire import PATIENCE, Client, connected, demand, rest_of, sha256
 
-MIB = 1 << 20
+KIB, MIB = 1 << 10, 1 << 20
 
 # What it prints to standard error, in a line, for words that are no command; and a server once it has served its count.
 USAGE = "usage: blobd once | serve ADDR COUNT | push ADDR NAME FILE CHUNK\n"
