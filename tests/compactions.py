@@ -9,42 +9,20 @@ import os
 import random
 import re
 import shutil
-import subprocess
 import time
 
-from harness.running import Server, SmallDisk, pull, run
+from harness.data import REFUSED, SIZE, bodies, files, flipped, serving
+from harness.pushers import NAME, has_all
+from harness.running import MIB, SmallDisk, pull, run
 from harness.suite import case, check, equal, main, skip
 from harness.wire import sha256, sha512
 
-KIB, MIB = 1 << 10, 1 << 20
-NAME = "lib/a"
-REFUSED = "fault: data\n", 3
 # what a dry run says
-SIZE = r"\d[\d.]* [KMG]?i?B"
 WASTE = re.compile(rf"would go: {SIZE} of {SIZE} of records, (\d+) of (\d+) files?, {SIZE} of {SIZE} in them\n")
-
-
-def serving(path, **variables):
-    """A server that starts with nothing but all of a directory."""
-    return Server(env={"BLOBD_DATA": path, "BLOBD_STRICT": "1", **variables}, stderr=subprocess.PIPE)
-
-
-def files(path):
-    """Each file within a folder, with its bytes."""
-    found = {}
-    for folder, _, names in os.walk(path):
-        for name in names:
-            with open(os.path.join(folder, name), "rb") as file:
-                found[os.path.relpath(os.path.join(folder, name), path)] = file.read()
-    return found
 
 
 def room(path):
     return sum(map(len, files(path).values()))
-
-
-def bodies(path):
-    return sum(name.startswith("bodies/") for name in files(path))
 
 
 def content(seed, size):
@@ -93,7 +71,7 @@ MIXED = content(8, 140_000)
 
 
 def what_is_there(server, client, place, empty):
-    equal("the blobs", [pull(server, NAME, sha256(blob)) for blob, _ in BLOBS], [blob for blob, _ in BLOBS])
+    has_all("the blobs", server, [blob for blob, _ in BLOBS])
     equal("those of another", [pull(server, "lib/b", sha256(blob)) for blob, _ in BLOBS], [blob for blob, _ in BLOBS])
     equal("a mounted one", pull(server, "lib/c", sha256(BLOBS[0][0])), BLOBS[0][0])
     equal("no others", [pull(server, "lib/c", sha256(blob)) for blob, _ in BLOBS[1:]], [404] * (len(BLOBS) - 1))
@@ -110,13 +88,13 @@ def what_stays_and_what_goes(folder):
     dry, status, more = run("compact", "--dry-run", path)
     equal("a dry run", (status, more, files(path) == was), (0, "", True))
     dead, all_ = map(int, WASTE.fullmatch(dry).groups())
-    equal("the files that it counts", all_, bodies(path))
+    equal("the files that it counts", all_, len(bodies(path)))
     told, status, more = run("compact", path)
     equal("a compaction", (status, more), (0, ""))
     check("it says what went", told.startswith("compacted: ") and told.endswith(f" {dead} files went\n"), (told, dry))
     left = files(path)
     check("there is room", room(path) < before, (before, room(path)))
-    equal("the files of bodies", bodies(path), 19)
+    equal("the files of bodies", len(bodies(path)), 19)
     told, status, more = run("compact", path)
     equal("a second one", (status, more, files(path) == left), (0, "", True))
     check("nothing went", told.endswith(" 0 files went\n"), told)
@@ -157,7 +135,7 @@ def files_that_no_record_names(folder):
     told, status, more = run("compact", path)
     equal("a compaction", (status, more), (0, ""))
     check("it says what went", told.endswith(" 2 files went\n"), told)
-    equal("what is left", bodies(path), 2)
+    equal("what is left", len(bodies(path)), 2)
     with serving(path) as server:
         equal("the blob", pull(server, NAME, sha256(BLOBS[0][0])), BLOBS[0][0])
 
@@ -173,7 +151,7 @@ def what_is_refused(folder):
         check("it is named", "another server has it" in more, more)
         check("a dry run beside it", WASTE.fullmatch(run("compact", "--dry-run", path)[0]))
         equal("the server goes on", client.push(NAME, BLOBS[1][0], MIB)[-1], 201)
-    body = next(name for name in files(path) if name.startswith("bodies/"))
+    body = next(iter(bodies(path)))
     os.rename(os.path.join(path, body), os.path.join(folder, "body"))
     before = files(path)
     told, status, more = run("compact", path)
@@ -202,21 +180,17 @@ def many_in_one_body(folder):
         equal("blobs", [client.push(NAME, blob, MIB)[-1] for blob in blobs], [201] * 40)
         # once more, which names them a second time
         equal("of another", [client.push("lib/b", blob, MIB)[-1] for blob in blobs[::3]], [201] * 14)
-    body = os.path.join(path, max(name for name in files(path) if name.startswith("bodies/")))
-    with open(body, "r+b") as file:
-        first = file.read(1)
-        file.seek(0)
-        file.write(bytes([first[0] ^ 1]))
+    body = os.path.join(path, max(bodies(path)))
+    flipped(body, 0, 0)
     before = files(path)
     told, status, _ = run("compact", path)
     equal("a damaged one", (told, status, files(path) == before), (*REFUSED, True))
-    with open(body, "r+b") as file:
-        file.write(first)
+    flipped(body, 0, 0)
     told, status, more = run("compact", path)
     equal("a compaction", (status, more), (0, ""))
     check("it says what went", told.endswith(" 14 files went\n"), told)
     with serving(path) as server:
-        equal("the blobs", [pull(server, NAME, sha256(blob)) == blob for blob in blobs], [True] * 40)
+        has_all("the blobs", server, blobs)
         equal("those of another", [pull(server, "lib/b", sha256(blob)) == blob for blob in blobs[::3]], [True] * 14)
 
 
@@ -277,7 +251,7 @@ def what_nothing_refers_to(folder):
     gives_up = f"repositories would give up {len(STORED - KEPT)} blobs\n"
     check("how much", last.endswith(f", {gives_up}"), last)
     dead, all_ = map(int, WASTE.fullmatch(last.replace(f", {gives_up}", "\n")).groups())
-    equal("the files that it counts", all_, bodies(path))
+    equal("the files that it counts", all_, len(bodies(path)))
     told, status, more = run("compact", "--grace", "0", path, keep)
     equal("a compaction", (status, more), (0, ""))
     wanted = f", {dead} files went, repositories gave up {len(STORED - KEPT)} blobs\n"
@@ -336,7 +310,7 @@ def what_is_young_stays(folder):
     told = run("compact", path, keep)[0]
     check("by a day nothing goes", told.endswith(", repositories gave up 0 blobs\n"), told)
     with serving(path) as server:
-        equal("what is still there", [pull(server, NAME, sha256(blob)) for blob in (young, often)], [young, often])
+        has_all("what is still there", server, [young, often])
 
 
 @case()
@@ -389,16 +363,16 @@ def wasteful(path):
     with serving(path) as server, server.client() as client:
         equal("a push", client.push(NAME, LARGE, 4 * MIB)[-1], 201)
         equal("others", [client.push(f"lib/{at}", OFTEN, 4 * MIB)[-1] for at in range(TIMES)], [201] * TIMES)
-    equal("files", bodies(path), 36)
+    equal("files", len(bodies(path)), 36)
 
 
 def first_told(path, count, **variables):
     """What a start says first. It has all that was stored, and so many files."""
-    with serving(path, **variables) as server:
+    with serving(path, env=variables) as server:
         told = server.told(20)
         stored = [(NAME, LARGE), *((f"lib/{at}", OFTEN) for at in range(TIMES))]
         equal("what is lost", [name for name, blob in stored if pull(server, name, sha256(blob)) != blob], [])
-    equal("the files of bodies", bodies(path), count)
+    equal("the files of bodies", len(bodies(path)), count)
     return told
 
 

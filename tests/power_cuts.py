@@ -24,7 +24,8 @@ import threading
 import time
 
 from harness import disks, running, shims
-from harness.running import MIB, Server
+from harness.data import serving, tree
+from harness.running import MIB
 from harness.suite import OPTIONS, case, check, equal, main
 from harness.wire import sha256
 
@@ -140,16 +141,11 @@ class Story:
         return State(uploads, frozenset(blobs))
 
 
-def keeping(data):
-    """The variables of a server that starts with nothing but all of a data directory."""
-    return {"BLOBD_DATA": data, "BLOBD_STRICT": "1"}
-
-
-def served(folder, data, **variables):
+def served(folder, data, **more):
     """A server on a data directory whose calls are noted."""
     notes = os.path.join(folder, f"notes-{len(os.listdir(folder))}")
     noted = shims.loaded(folder, "disks", DISK_FOLDER=data, DISK_NOTES=notes)
-    return Server(env=variables | noted | keeping(data), stderr=subprocess.DEVNULL), notes
+    return serving(data, env=more | noted, stderr=subprocess.DEVNULL), notes
 
 
 def told_stories(folder, data, steps=Story.all_steps, clients=CLIENTS):
@@ -179,7 +175,7 @@ def bodies_in(paths):
 def left_over(data, allowed=None):
     """What is in a data directory that a start or a compaction removes; the bodies are one of these lists, if they are
     given."""
-    paths = disks.found(data)
+    paths = tree(data)
     new = [path for path in paths if path == "journal.new" or path.startswith("bodies/new/")]
     if new or allowed is None or bodies_in(paths) in allowed:
         return [f"{path} is left" for path in new]
@@ -219,9 +215,9 @@ def started(left, stories, end):
         data = os.path.join(folder, "data")
         disks.make(data, left)
         with open(os.path.join(folder, "told"), "w+", encoding="utf-8") as told:
-            wrong = after_start(Server(env=keeping(data), stderr=told), data, stories, end)
+            wrong = after_start(serving(data, stderr=told), data, stories, end)
             told.seek(0)
-            text = f"{told.read()} {journal_in(left)} was left, {journal_in(disks.found(data))} is there"
+            text = f"{told.read()} {journal_in(left)} was left, {journal_in(tree(data))} is there"
             return [f"{line} {text}" for line in wrong]
 
 
@@ -253,7 +249,7 @@ def wrong_of(told):
 
 def are_allowed(data, stories, notes, numbers):
     """Cuts by numbers: each call has one of the first ones, and those behind them cut again with other dice."""
-    check("the notes tell all", disks.Disk().behind(notes).read() == disks.found(data))
+    check("the notes tell all", disks.Disk().behind(notes).read() == tree(data))
     with running.processes() as pool:
         cuts = zip(itertools.repeat(stories), itertools.repeat(notes), numbers)
         runs = pool.map(wrong_of, cuts, chunksize=20)
@@ -328,7 +324,7 @@ class Compaction:
 
     def __init__(self, run, data, stories):
         self.run, self.stories = run, stories
-        self.before, self.notes, self.allowed = disks.found(data), [], []
+        self.before, self.notes, self.allowed = tree(data), [], []
 
     def behind(self, count):
         """The disk as so many calls leave it."""
@@ -342,7 +338,7 @@ class Compaction:
             disks.make(data, self.behind(count).left(dice))
             wrong = self.again(folder, data) if dice.random() < 0.3 else []
             with open(os.path.join(folder, "told"), "w+", encoding="utf-8") as told:
-                wrong += after_start(Server(env=keeping(data), stderr=told), data, self.stories, END, self.allowed)
+                wrong += after_start(serving(data, stderr=told), data, self.stories, END, self.allowed)
                 told.seek(0)
                 return [f"cut behind call {count} of {len(self.notes)}: {line} {told.read()}" for line in wrong]
 
@@ -364,13 +360,13 @@ def are_cut(folder, data, run, stories):
     one = Compaction(run, data, stories)
     (status, told, more), one.notes = run(folder, data)
     equal("a compaction", (status, more), (0, ""))
-    after = disks.found(data)
+    after = tree(data)
     check("the notes tell all of it", one.behind(len(one.notes)).read() == after)
     one.allowed = [bodies_in(one.before), bodies_in(after)]
     check("it makes room", sum(len(content or b"") for content in after.values())
           < sum(len(content or b"") for content in one.before.values()))
     (again, _, more), _ = run(folder, data)
-    equal("a second one", (again, more, disks.found(data) == after), (0, "", True))
+    equal("a second one", (again, more, tree(data) == after), (0, "", True))
     CUT.append(one)
     with running.processes() as pool:
         wrong = [line for lines in pool.map(cut_compaction, range(1, len(one.notes) + 1), chunksize=4) for line in lines]

@@ -14,26 +14,20 @@ import subprocess
 import threading
 import time
 
-from harness import shims
-from harness.running import Repeated, Server, ask_alone, environment, pull, run
+from harness import data, shims
+from harness.data import LARGEST_IN_JOURNAL, REFUSED, SECTOR, bodies, content_of, killed_start, overwritten, tree
+from harness.pushers import NAME, has_all, post
+from harness.running import KIB, MIB, Repeated, Server, ask_alone, pull, run
 from harness.suite import OPTIONS, case, check, equal, main
 from harness.wire import sha256, sha512
 
-KIB, MIB = 1 << 10, 1 << 20
-SECTOR = 4 * KIB
-NAME = "lib/a"
-# a body of more bytes has a file of its own
-LARGEST_IN_JOURNAL = 64 * KIB
-# what is printed of a directory that can't be read, and the status
-REFUSED = "fault: data\n", 3
 # what a start says behind what it has
 AT_MOST = "; it holds at most 1.0 GiB (BLOBD_MEMORY)\n"
 
 
 def serving(path, env=None, **options):
-    """A server on a data directory that isn't to be damaged, whose standard error is read."""
-    variables = {"BLOBD_DATA": path, "BLOBD_STRICT": "1", "BLOBD_MEMORY": "1G", **(env or {})}
-    return Server(env=variables, **{"stderr": subprocess.PIPE, **options})
+    """A server on a data directory that may hold so much."""
+    return data.serving(path, env={"BLOBD_MEMORY": "1G", **(env or {})}, **options)
 
 
 def size_text(size):
@@ -66,21 +60,6 @@ def is_status(name, path, counts):
     equal(f"{name}, in words", words, f"{holding(counts)}, {size_text(counts['received'])} in them\n")
 
 
-def bodies(path):
-    """The files that bodies have, each with its bytes."""
-    found = {}
-    for folder, _, names in os.walk(f"{path}/bodies"):
-        for name in names:
-            with open(os.path.join(folder, name), "rb") as file:
-                found[os.path.join(folder, name)] = file.read()
-    return found
-
-
-def tree(path):
-    with open(f"{path}/journal", "rb") as file:
-        return file.read(), bodies(path)
-
-
 class Play:
     """Requests by chance, and what they come to."""
 
@@ -96,8 +75,7 @@ class Play:
             self.uploads[client.opened(NAME)] = b""
         elif kind == 1:
             content, name = self.content(), self.chance.choice((sha256, sha512))
-            target = f"/v2/{NAME}/blobs/uploads/?digest={name(content)}"
-            equal("a whole blob", client.ask("POST", target, content).status, 201)
+            equal("a whole blob", post(client, content, name), 201)
             self.stored[name(content)] = content
         elif kind == 2 and self.stored:
             digest = self.chance.choice(list(self.stored))
@@ -186,16 +164,9 @@ def while_clients_push(folder):
 
 def filled(path, contents):
     """A data directory in which there are these blobs."""
-    with serving(path) as server:
+    with serving(path) as server, server.client() as client:
         for content in contents:
-            reply = ask_alone(server, "POST", f"/v2/{NAME}/blobs/uploads/?digest={sha256(content)}", content)
-            equal("a blob", reply.status, 201)
-
-
-def changed(path, at, byte):
-    with open(path, "r+b") as file:
-        file.seek(at)
-        file.write(bytes([byte]))
+            equal("a blob", post(client, content), 201)
 
 
 @case()
@@ -203,10 +174,9 @@ def damaged_records(folder):
     """Records that can't be read are counted, and the others are told."""
     path = os.path.join(folder, "data")
     filled(path, [b"one", b"two"])
-    with open(f"{path}/journal", "rb") as file:
-        at = file.read().index(b"two")
+    at = content_of(f"{path}/journal").index(b"two")
     # the kind of the entry, 4 + 5 bytes of a name, and 4 + 71 of a digest before the body's mark and length
-    changed(f"{path}/journal", at - 90, 99)
+    overwritten(f"{path}/journal", at - 90, b"c")
     printed, code, told = run("status", path)
     equal("a status", (printed, code), ("1 blob, 3 B, 0 uploads open, 0 B in them\n", 0))
     equal("what is damaged", told, f"blobd: damage in {path}: 1 record can't be read\n")
@@ -226,7 +196,7 @@ def killed_within_a_body(path, content):
         end = time.monotonic() + 60
         while time.monotonic() < end and pushing.is_alive():
             if any(name not in before for folder, _, names in os.walk(f"{path}/bodies")
-                   for name in (os.path.join(folder, name) for name in names)):
+                   for name in (os.path.relpath(os.path.join(folder, name), path) for name in names)):
                 break
         server.process.kill()
         server.process.wait()
@@ -251,15 +221,10 @@ def files_that_nothing_names(folder):
             continue
         caught += 1
         for pause in (0, 0.002, 0.01):
-            # killed as it starts
-            words = [OPTIONS.program, "serve", "127.0.0.1:0"]
-            variables = environment({"BLOBD_DATA": path})
-            with subprocess.Popen(words, env=variables, stdout=subprocess.DEVNULL, stderr=subprocess.DEVNULL) as process:
-                time.sleep(pause)
-                process.kill()
+            killed_start(path, pause, BLOBD_STRICT=None)
         with serving(path, env={"BLOBD_STRICT": str(turn % 2)}) as server:
             check("what nothing names is gone", bodies(path) == named, sorted(set(bodies(path)) ^ set(named)))
-            equal("what was told", [pull(server, NAME, sha256(content)) for content in kept], kept)
+            has_all("what was told", server, kept)
         if caught == 3:
             break
     check("there were such files", caught > 0)
@@ -273,8 +238,7 @@ def files_in_doubt(folder):
     filled(good, kept)
     # a batch is one record without its body: it takes a gate's sector, and one of its own
     gates, head = [SECTOR + 2 * SECTOR * i for i in range(3)], SECTOR + 7
-    with open(f"{good}/journal", "rb") as file:
-        journal = file.read()
+    journal = content_of(f"{good}/journal")
     equal("the gates", [journal[at] for at in gates], [1, 1, 1])
     stray, other = "bodies/07/7", "bodies/ff/4095"
     for name, changes, stay in [
@@ -288,7 +252,7 @@ def files_in_doubt(folder):
             with open(os.path.join(path, file), "wb") as made:
                 made.write(b"what nothing names")
         for at, byte in changes.items():
-            changed(f"{path}/journal", at, byte)
+            overwritten(f"{path}/journal", at, bytes([byte]))
         before = bodies(path)
         for _ in range(2):
             with serving(path, env={"BLOBD_STRICT": "0"}) as server:

@@ -146,7 +146,7 @@ class Disk:
         self.renamed = {path: what for path, what in self.renamed.items() if parent(path) != folder}
 
     def read(self):
-        """All paths, each with its bytes as a read finds them, or None for a folder."""
+        """All paths, each with its bytes as a read finds them, or None for a folder: as `data.tree` has them."""
         return {path: file and file.read() for path, file in self.files.items()}
 
     def left(self, dice):
@@ -188,16 +188,3 @@ def make(folder, left):
         else:
             with open(place, "wb") as file:
                 file.write(left[path])
-
-
-def found(folder):
-    """What stands in a folder, as `Disk.read` has it."""
-    paths = {".": None}
-    for above, folders, files in os.walk(folder):
-        below = os.path.relpath(above, folder)
-        for name in folders:
-            paths[os.path.normpath(os.path.join(below, name))] = None
-        for name in files:
-            with open(os.path.join(above, name), "rb") as file:
-                paths[os.path.normpath(os.path.join(below, name))] = file.read()
-    return paths
