@@ -3,13 +3,12 @@
 
     command_line.py PROGRAM
 """
-import contextlib
 import os
 import socket
 import subprocess
 
 from harness import TOP
-from harness.running import LAST_BASE, SERVED, USAGE, Server, run
+from harness.running import LAST_BASE, SERVED, USAGE, Server, on_a_terminal, run
 from harness.suite import OPTIONS, case, check, equal, main
 from harness.wire import PATIENCE, address_of, is_silent
 
@@ -87,17 +86,9 @@ def a_terminal_is_told_which_word():
         ([], "no such command"),
         (["push", "127.0.0.1:1", "lib/a", b"\xff"], "a word isn't UTF-8"),
     ):
-        terminal, inner = os.openpty()
-        ran = subprocess.run([OPTIONS.program, *words], stdout=subprocess.PIPE, stderr=inner, timeout=PATIENCE, check=False)
-        os.close(inner)
-        printed = b""
-        # a terminal that nobody has open any more ends with an error
-        with contextlib.suppress(OSError):
-            while part := os.read(terminal, 65536):
-                printed += part
-        os.close(terminal)
-        usage, more = printed.decode().replace("\r\n", "\n").split("\n", 1)
-        equal(f"{words}: what is printed", (ran.stdout, ran.returncode, usage + "\n"), (b"", 2, USAGE))
+        ended, drawn = on_a_terminal(*words)
+        usage, more = drawn.replace("\r\n", "\n").split("\n", 1)
+        equal(f"{words}: what is printed", (*ended, usage + "\n"), ("", 2, USAGE))
         check(f"{words}: what is told", more.startswith(f"blobd: {told}") and more.count("\n") == 1, more)
 
 

@@ -56,6 +56,7 @@ PARTS = [
     ("the registry: pushes from elsewhere", driving("registry_adapter")),
     ("what a newcomer meets", driving("newcomers")),
     ("pushes", driving("pushes")),
+    ("pushes to servers that don't serve", driving("push_servers")),
     ("replies before their time", driving("early_replies")),
     ("streams, beside a model", driving("differential")),
     ("clients for a while", driving("soak", "--seconds", "7")),

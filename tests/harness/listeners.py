@@ -40,6 +40,17 @@ class Listener:
         self.listener.close()
 
 
+def reply_of(status, body=b"", fields=b""):
+    """A whole reply, behind which its server closes."""
+    head = b"HTTP/1.1 %b\r\n%bContent-Length: %d\r\nConnection: close\r\n\r\n"
+    return head % (status.encode(), fields, len(body)) + body
+
+
+def head_of(length, fields=b""):
+    """A reply to a HEAD that tells this length, behind which its server closes."""
+    return b"HTTP/1.1 200 OK\r\n%bContent-Length: %d\r\nConnection: close\r\n\r\n" % (fields, length)
+
+
 class Early(bytes):
     """A reply that is sent behind the head of its request, and then the connection is closed as it is."""
 

@@ -62,6 +62,21 @@ def run(*words, **options):
     return ran.stdout, ran.returncode, ran.stderr
 
 
+def on_a_terminal(*words, env=None):
+    """Standard output and the exit status of a run whose standard error is a terminal, and what was drawn there."""
+    terminal, inner = os.openpty()
+    drawn, options = [], {"env": environment(env or {}), "text": True}
+    with subprocess.Popen([OPTIONS.program, *words], stdout=subprocess.PIPE, stderr=inner, **options) as ran:
+        os.close(inner)
+        # a terminal that nobody has open any more ends with an error
+        with contextlib.suppress(OSError):
+            while part := os.read(terminal, 65536):
+                drawn.append(part)
+        told = ran.stdout.read(), ran.wait(timeout=PATIENCE)
+    os.close(terminal)
+    return told, b"".join(drawn).decode()
+
+
 def written(folder, content):
     """The path of a file with these bytes."""
     path = os.path.join(folder, sha256(content).replace(":", "-"))
