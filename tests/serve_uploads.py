@@ -15,7 +15,7 @@ import threading
 import time
 
 from harness import shims
-from harness.running import MIB, SERVED, TABLE_FULL, Server, ask_alone, pull
+from harness.running import MIB, SERVED, TABLE_FULL, Server, ask_alone, becomes, pull
 from harness.suite import case, check, equal, main, skip
 from harness.wire import PATIENCE, sha256, sha512, vanish
 
@@ -439,21 +439,32 @@ def closes_at_once_share_a_hash():
                 check(f"{name}: others are answered", are_answered, told)
 
 
+def counted(folder):
+    """The variables of a server whose threads are counted and whose time passes as it is told; what counts them; and
+    the file in which the time is told."""
+    told, ahead = os.path.join(folder, "told"), os.path.join(folder, "ahead")
+    threads = shims.loaded(folder, "threads", THREADS_TOLD=told)
+    shims.pass_time(ahead, 0)
+
+    def began(client):
+        """How many threads began, once all is done that was asked before."""
+        client.ask("GET", "/v2/")
+        return len(shims.told(told))
+
+    return shims.together(threads, shims.loaded(folder, "ahead", CLOCK_AHEAD=ahead)), began, ahead
+
+
 @case("cc")
 def many_bytes_go_in_a_thread(folder):
-    """The bytes of a chunk that is refused, of a blob whose place another takes, and of an idle upload that leaves a full
-    table go in a thread if they are many, so that nobody waits for that. Few go where their request is served."""
-    told, ahead, content = os.path.join(folder, "told"), os.path.join(folder, "ahead"), bytes(20 * MIB)
-    counted = shims.loaded(folder, "threads", THREADS_TOLD=told)
-    late = shims.loaded(folder, "ahead", CLOCK_AHEAD=ahead)
-    shims.pass_time(ahead, 0)
-    with Server(env=shims.together(counted, late) | {"BLOBD_WORKERS": 1}) as server, server.client() as client:
+    """The bytes of a chunk that is refused, of a blob whose place another takes, and of an idle upload that leaves a
+    full table go in a thread if they are many, so that nobody waits for that. Few go where their request is served."""
+    (loaded, began, ahead), content = counted(folder), bytes(20 * MIB)
+    with Server(env=loaded | {"BLOBD_WORKERS": 1}) as server, server.client() as client:
 
         def begun(*request, **fields):
             """The status of a request, and how many threads began meanwhile."""
-            before = len(shims.told(told))
-            status = client.ask(*request, **fields).status
-            return status, len(shims.told(told)) - before
+            before = began(client)
+            return client.ask(*request, **fields).status, began(client) - before
 
         for name, size, threads in (("few", 12 * MIB, 0), ("many", len(content), 1)):
             missed = begun("PATCH", client.opened("lib/a"), content[:size], Content_Range=f"1-{size}")
@@ -467,6 +478,20 @@ def many_bytes_go_in_a_thread(folder):
         equal("uploads that their client leaves", left, [202] * len(sizes))
         shims.pass_time(ahead, 3_700)
         equal("one more than the table has", begun("POST", UPLOADS), (202, 1))
+
+
+@case("cc")
+def bytes_that_give_way_go_in_a_thread(folder):
+    """If others need the room of an idle upload, a thread hashes its bytes by what they weren't hashed by yet. Then
+    they go, in another thread if they are many."""
+    for name, size, threads in (("few", 12 * MIB, 1), ("many", 20 * MIB, 2)):
+        loaded, began, ahead = counted(folder)
+        room = {"BLOBD_WORKERS": 1, "BLOBD_MEMORY": size + 60_000}
+        with Server(env=loaded | room, stderr=subprocess.DEVNULL) as server, server.client() as client:
+            left, before = client.ask("PATCH", client.opened("lib/a"), bytes(size)).status, began(client)
+            shims.pass_time(ahead, 3_700)
+            check(f"an opening has the room of {name}", becomes(202, lambda: client.ask("POST", UPLOADS).status), left)
+            equal(f"the threads of {name}", began(client) - before, threads)
 
 
 if __name__ == "__main__":
