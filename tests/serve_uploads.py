@@ -482,15 +482,17 @@ def many_bytes_go_in_a_thread(folder):
 
 @case("cc")
 def bytes_that_give_way_go_in_a_thread(folder):
-    """If others need the room of an idle upload, a thread hashes its bytes by what they weren't hashed by yet. Then
-    they go, in another thread if they are many."""
-    for name, size, threads in (("few", 12 * MIB, 1), ("many", 20 * MIB, 2)):
+    """If another needs the room of an idle upload, a thread hashes its bytes by what they weren't hashed by yet. Then
+    they go, in another thread if they are many. One more hashes the chunk of the other, which asks for nothing else."""
+    for name, size, threads in (("few", 12 * MIB, 2), ("many", 20 * MIB, 3)):
         loaded, began, ahead = counted(folder)
-        room = {"BLOBD_WORKERS": 1, "BLOBD_MEMORY": size + 60_000}
+        room = {"BLOBD_WORKERS": 1, "BLOBD_MEMORY": size + 200_000}
         with Server(env=loaded | room, stderr=subprocess.DEVNULL) as server, server.client() as client:
             left, before = client.ask("PATCH", client.opened("lib/a"), bytes(size)).status, began(client)
             shims.pass_time(ahead, 3_700)
-            check(f"an opening has the room of {name}", becomes(202, lambda: client.ask("POST", UPLOADS).status), left)
+            place, chunk = client.opened("lib/a"), bytes(4 * MIB)
+            is_taken = becomes(202, lambda: client.ask("PATCH", place, chunk).status)
+            check(f"a chunk has the room of {name}", is_taken, left)
             equal(f"the threads of {name}", began(client) - before, threads)
 
 
