@@ -231,7 +231,7 @@ class Client:
             self.took(upload, body, chunked)
         if closed and closed.status == 201:
             demand(upload.held == before, "a chunk is taken, and a close without it")
-            demand(not chunked or chunked.status == 404, "a chunk behind a close is answered", chunked)
+            demand(not chunked or chunked.status == 404, "a chunk after a close is answered", chunked)
             self.commit(upload)
         elif closed:
             demand(closed.status == 400 and upload.held != before, "a close beside a chunk is answered", closed)

@@ -109,7 +109,7 @@ def what_stays_and_what_goes(folder):
         equal("an upload that goes on", [rest, closed], [202, 201])
         equal("an upload with nothing", client.ask("PUT", f"{empty}?digest={sha256(b'')}").status, 201)
     with serving(path) as server:
-        equal("behind a kill", pull(server, NAME, sha256(content(6, 150_000) + b"rest")), content(6, 150_000) + b"rest")
+        equal("after a kill", pull(server, NAME, sha256(content(6, 150_000) + b"rest")), content(6, 150_000) + b"rest")
 
 
 @case()

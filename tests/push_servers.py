@@ -246,7 +246,7 @@ def a_full_server(folder):
         has_all("what was stored", server, stored)
     with Server(env={"BLOBD_DATA": data, "BLOBD_MEMORY": "64M"}, **options) as server:
         equal("with more memory", push(server.addr, "lib/b", path), pushed(content))
-        has_all("what was stored, behind a start", server, stored)
+        has_all("what was stored, after a start", server, stored)
 
 
 @case()

@@ -107,7 +107,7 @@ def push_over_kills(folder, *away):
     chance = random.Random(OPTIONS.mib + len(away))
     content = b"".join(chance.randbytes(MIB) for _ in range(OPTIONS.mib))
     path, data = written(folder, content), os.path.join(folder, f"data{len(away)}")
-    # before the last chunks, so that none falls behind the end of a push
+    # before the last chunks, so that none falls after the end of a push
     moments = sorted(chance.sample(range(len(content) // 20, len(content) // 2), len(away)))
     server, before = Server(env={"BLOBD_DATA": data}), 0
     try:

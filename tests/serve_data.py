@@ -19,7 +19,7 @@ from harness.wire import request_text, sha256, sha512
 
 @case()
 def what_was_answered_is_there(folder):
-    """Behind a kill each blob is there byte for byte, in each repository that has it, and an upload goes on under its
+    """After a kill each blob is there byte for byte, in each repository that has it, and an upload goes on under its
     reference at its offset. So it is behind a second kill."""
     path = os.path.join(folder, "data")
     begun, sized = random.Random(1).randbytes(200_000), 70_000
@@ -117,7 +117,7 @@ def idle_hour(folder):
         equal("a chunk behind fifty minutes", client.send_chunks(places[1], b"a"), [202])
     with serving(path, env=clock) as server, server.client() as client:
         # this server's time begins here, at the latest as it answers
-        equal("an upload behind a restart", held(client, places[0]), (204, 0))
+        equal("an upload after a restart", held(client, places[0]), (204, 0))
         shims.pass_time(ahead, 3_000 + 500)
         early = [held(client, place) for place in places]
         shims.pass_time(ahead, 3_000 + 700)
@@ -139,7 +139,7 @@ def killed_at_random(folder):
         for _ in range(chance.randrange(3)):
             killed_start(path, chance.choice((0, 0.001, 0.01, 0.05)))
         with serving(path, env={"BLOBD_WORKERS": CLIENTS}) as server:
-            equal("a start behind a kill", server.first_line[:10], "listening ")
+            equal("a start after a kill", server.first_line[:10], "listening ")
             look(server, told, chance)
             close_some(server, told)
             clients = [Pusher(server, told, chance.randrange(1 << 32)) for _ in range(CLIENTS)]
@@ -152,7 +152,7 @@ def killed_at_random(folder):
         look(server, told, chance)
         wrong = [key for key, content in told.stored.items() if pull(server, *key) != content]
         check("all that was ever answered 201", not wrong, wrong[:3])
-    lacking = {"whole", "upload", "mount", "resume", "pull", "behind a kill"} - told.done.keys()
+    lacking = {"whole", "upload", "mount", "resume", "pull", "after a kill"} - told.done.keys()
     check("there was each of what clients do", not lacking and len(told.stored) > 50, told.done)
     print(f"{kills} kills, {len(told.stored)} blobs, {dict(told.done)}")
 

@@ -116,7 +116,7 @@ def calls_of_a_chunk(call, size):
 @case("cc")
 def each_sync_fails():
     """A sync that fails once, whichever it is: the server answers nothing more, though later ones go well, says why and
-    ends. Behind a start all that was answered is there."""
+    ends. After a start all that was answered is there."""
     counts = [calls_of_a_chunk("sync", size) for size in SIZES]
     are_more = 1 < counts[0] < counts[1] < counts[2]
     check("syncs of the journal, of a file and its name, and of parts", are_more, counts)
@@ -132,7 +132,7 @@ def each_write_fails():
 
 @case("cc")
 def a_sync_fails_under_clients(folder):
-    """Clients push while a sync fails: whatever any of them was told is there behind a start."""
+    """Clients push while a sync fails: whatever any of them was told is there after a start."""
     path, told = os.path.join(folder, "data"), Told()
     env, fails = failing(folder, path, "sync", 20)
     with serving(path, env=env | {"BLOBD_WORKERS": 8}) as server:
@@ -232,7 +232,7 @@ def filled_again(disk):
 @case()
 def full_disk(folder):
     """A disk that fills, is made larger and fills again: what would change something is answered 503, and nothing stays
-    of it. Once there is room the server goes on by itself, and behind a kill all that was told is there."""
+    of it. Once there is room the server goes on by itself, and after a kill all that was told is there."""
     with SmallDisk(folder, 300) as disk:
         if disk.is_there:
             filled_again(disk)

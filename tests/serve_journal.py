@@ -94,7 +94,7 @@ def goes_on_without(name, path, contents):
             equal(f"{name}: what a strict start says then", server.told(5), "blobd: " + WENT_ON.format(path))
             has_all(f"{name}: what is there", server, [*contents[:there], more])
         check(f"{name}: no file is removed", before.items() <= bodies(path).items())
-    going = is_looked_at(f"{name}: behind a start", path, "blobd: " + WENT_ON, "before")
+    going = is_looked_at(f"{name}: after a start", path, "blobd: " + WENT_ON, "before")
     was = bodies(path)
     told, status, more_told = run("compact", path)
     equal(f"{name}: a compaction", (status, goes_for_good(path, more_told)), (0, going))
@@ -154,7 +154,7 @@ def comes_back(name, path, contents, is_told=True):
         equal(f"{name}: it is told", server.told(5), MENDED.format(path))
         has_all(f"{name}: what is there", server, contents)
         equal(f"{name}: a push", client.push(NAME, b"more")[-1], 201)
-    is_looked_at(f"{name}: behind a start", path, "", None)
+    is_looked_at(f"{name}: after a start", path, "", None)
     with serving(path) as server:
         told = server.told(5)
         check(f"{name}: nothing is said any more", HOLDS.fullmatch(told), told)

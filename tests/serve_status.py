@@ -120,7 +120,7 @@ def what_is_held(folder):
                     play.turn(client)
                 is_status(f"while it serves ({seed}, {start})", path, play.counts())
             before = tree(path)
-            is_status("behind a kill", path, play.counts())
+            is_status("after a kill", path, play.counts())
             check("nothing is changed", tree(path) == before)
         with serving(path) as server:
             wrong = [digest for digest, content in play.stored.items() if pull(server, NAME, digest) != content]

@@ -1,5 +1,5 @@
 """Clients that store blobs, fill a server with them, and look whether all are there; and some that push, mount, resume
-and pull as chance has it, and note what they were told: that has to be there behind a kill of their server."""
+and pull as chance has it, and note what they were told: that has to be there after a kill of their server."""
 import collections
 import random
 import threading
@@ -153,7 +153,7 @@ class Pusher:
         if not self.go_on(place, content):
             return False
         if place in self.told.left:
-            self.told.count("behind a kill")
+            self.told.count("after a kill")
         return True
 
     def send(self, place, content, chunk):

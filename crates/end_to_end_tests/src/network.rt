@@ -179,7 +179,7 @@ impl Network {
         due
     }
 
-    /// Lets go what is held back long enough, behind a reply that the push heard, or behind its last request.
+    /// Lets go what is held back long enough, after a reply that the push heard, or after its last request.
     pub(crate) fn let_go(&self, rt: &impl Wait, push: usize, is_over: bool) {
         for held in self.due(rt, push, is_over) {
             let Held { bytes, line, .. } = held;

@@ -1,4 +1,4 @@
-//! A pool of four over a store that lacks a body: what it is told behind the loss comes back too.
+//! A pool of four over a store that lacks a body: what it is told after the loss comes back too.
 ghost use Rattle.std.specs.Prelude.{◌<◌, vec_len};
 
 use crate::clients::{Counts, Still, TextWorker, has_all_told, workers};
@@ -79,7 +79,7 @@ fn what_is_told_behind_a_loss_comes_back(rt: HostRuntime) -> Result<(), Fail> {
     };
     let counts = Counts::new();
     let Some((store, lost)) = live_on(&rt, alloc, store, workers(alloc, &counts)?) else {
-        panic!(rt; "all is kept behind the loss");
+        panic!(rt; "all is kept after the loss");
     };
     assert_eq!(rt; lost, 1);
     let store = cut(alloc, store, Dice { state: 7 })?;

@@ -484,7 +484,7 @@ impl Upload {
         Ok(rest)
     }
 
-    /// Closes the upload of a content with what is left of it, behind a close that is refused, and pulls it back.
+    /// Closes the upload of a content with what is left of it, after a close that is refused, and pulls it back.
     fn close_and_pull(
         &mut self,
         rt: &(impl Abort + Threads + Wait),

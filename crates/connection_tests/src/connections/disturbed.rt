@@ -224,7 +224,7 @@ fn unflushed_behind(
     Ok(())
 }
 
-/// Serves the connection to a writer whose flush fails, behind each reply.
+/// Serves the connection to a writer whose flush fails, after each reply.
 fn unflushed(rt: &impl Abort, alloc: Global, stored: &Stored) -> Result<(), AllocError> {
     let all = stored.sent(alloc)?;
     for flushes in 0..=stored.turns.len() {
