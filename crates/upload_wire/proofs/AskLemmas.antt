@@ -11,18 +11,10 @@ use Rattle.upload_names.proofs.NameFacts.{IsName-from}
 use Rattle.upload_service.specs.declared.ask.Extent.{Extent}
 use Rattle.upload_wire.specs.declared.asks.HeadAsk.{HeadAsk}
 use Rattle.upload_wire.specs.declared.asks.Method.{Method}
-use Rattle.upload_wire.specs.declared.asks.PathForm.{PathForm}
-use Rattle.upload_wire.specs.Target.{IsFormOf, named, method_of, ask_of_form, AsksAt, HeadAsks}
+use Rattle.upload_wire.specs.Target.{named, method_of, AsksAt, HeadAsks}
 
 pub named_none : (text : List ℕ) → (IsName text → ⊥) → None ≡ named text
 named_none text differs = search (rules, arith, cases_Bool, IsName-from)
-
--- what a form asks, asked at its path
-pub by_form : (path : List ℕ) (method : Method) (query : List ℕ) (range : Extent) (form : PathForm)
-    (r : Result HeadAsk AllocError) → IsFormOf path form → IfOk r (λ ask. ask ≡ ask_of_form form method query range)
-    → IfOk r (AsksAt path method query range)
-by_form path method query range form (Ok ask) is h = (form, is, h)
-by_form path method query range form (Err e) is h = tt
 
 -- what is lent, or else nothing
 pub copied_or : (query : Option (Bor (List ℕ))) (copied : Option (List ℕ)) (none result : Bor (List ℕ))

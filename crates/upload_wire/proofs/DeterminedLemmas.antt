@@ -353,19 +353,15 @@ module _ {D : Type 0} (step : Moves D) (det : IsDeterministic step) where
       → d.old.desk ≡ e.old.desk → (g : GoesOn max d.is.rest d.is.exchanges e.is.exchanges)
       → FindsNoDesk step max (stood step max d) d.new.desk → ⊥
   not_gone max d e m n same g f =
-      let split = subst HasMemory g.split n in
-      let parts =
-      answers_split e.old.desk e.is.at g.front g.behind g.next
-      (subst (λ ys. Answers step e.old.desk ys e.is.at) g.split e.is.served.answered) in
-      let at_same =
-      (same_answers d.old.desk e.old.desk d.is.at parts.0 d.is.exchanges g.front m
-      (all_first HasAnswer g.front (g.next ∷ g.behind) split) same g.same d.is.served.answered parts.2).1 in
-      let s = same_request f.request g.kept.0 (sym f.read ∙ g.read) in
-      let once =
-      det parts.0 g.next.ask None (Some g.next.answer) d.new.desk parts.1
-      (subst₂ (λ s q. step s q None d.new.desk) at_same s.ask f.gone) parts.3
-      none_is_enough (enough g.next.answer (all_second HasAnswer g.front (g.next ∷ g.behind) split).0) in
-      absurd (cc (once.0))
+      grind (
+        arith,
+        answers_split e.old.desk e.is.at g.front g.behind g.next,
+        same_answers d.old.desk e.old.desk d.is.at,
+        all_first HasAnswer g.front (g.next ∷ g.behind),
+        same_request f.request g.kept.0 (sym f.read ∙ g.read),
+        enough g.next.answer,
+        all_second HasAnswer g.front (g.next ∷ g.behind),
+      )
 
   are_the_same : (max : ℕ) (d e : Dialogue step max) → d.is.bytes ≡ e.is.bytes → IsDecided step max d
       → IsDecided step max e → d.old.desk ≡ e.old.desk → HasMemory (answered_in_dialogue step max d)
@@ -415,9 +411,7 @@ conversations_determined step = search (rules, arith, ask_the_same, are_the_same
 
 same_turn : (old : State) (o : Outcome) (now : ℕ) (a b : Answer) (new other : State) → Comes old now o a new
     → Comes old now o b other → a ≢ NoMemory → b ≢ NoMemory → (a ≡ b) × (new ≡ other)
-same_turn old o now a b new other (inl x) (inl y) m n = (x.0 ∙ sym y.0, x.1 ∙ sym y.1)
-same_turn old o now a b new other (inl x) (inr y) m n = absurd (n y.1)
-same_turn old o now a b new other (inr x) y m n = absurd (m x.1)
+same_turn old o now a b new other h h1 m n = search (rules, arith)
 
 turns_same : (old : State) (ask : Ask) (secret : List ℕ) (now : ℕ) (a b : Answer) (new other : State)
     → Turn old ask secret now a new → Turn old ask secret now b other → a ≢ NoMemory → b ≢ NoMemory

@@ -44,10 +44,6 @@ pub found_text : (before : List ℕ) {sum digest : List ℕ} (size : ℕ) → su
     ((codes "Docker-Content-Digest", digest) ∷ body_fields (codes "application/octet-stream") size)
 found_text before size sum = search (rules, arith, append_assoc, append-nil)
 
-pub two_fields : (before : List ℕ) (first second : HeadField)
-    → (before ++ print_field first) ++ print_field second ≡ before ++ flat_map print_field (first ∷ second ∷ [])
-two_fields before first second = simp (append_assoc, append-nil)
-
 -- some fields, and then one
 pub fields_and : (before : List ℕ) (fields : List HeadField) (field : HeadField)
     → (before ++ flat_map print_field fields) ++ print_field field
@@ -58,11 +54,3 @@ pub fields_both : (before : List ℕ) (fields others : List HeadField)
     → (before ++ flat_map print_field fields) ++ flat_map print_field others
     ≡ before ++ flat_map print_field (fields ++ others)
 fields_both before fields others = simp (append_assoc, flat_map-append)
-
--- The whole of a head.
-
-pub head_text : (before : List ℕ) {line : List ℕ} (status : Status) (fields : List HeadField) (keep : Bool)
-    → line ≡ status_line status
-    → ((before ++ line) ++ flat_map print_field fields) ++ (flat_map print_field (closing_fields keep) ++ crlf_bytes)
-    ≡ before ++ print_head status fields keep
-head_text before status fields keep line = search (rules, arith, append_assoc, flat_map-append)

@@ -12,9 +12,8 @@ use Rattle.http_wire.specs.Body.{framing_of, head_framing}
 use Rattle.upload_wire.specs.Target.{HeadAsks, AsksWhole, extent_of, head_range, with_body}
 use Rattle.http_wire.specs.Inner.HeadSpans.{request_spans}
 use Rattle.http_wire.specs.States.{SourceState, InputState, input_state}
-use Rattle.http_wire.specs.Reading.{Gave, Costs}
-use Rattle.http_wire.specs.Inner.BodyFinding.{CutsBody, FindsBody, TakesBody}
-use Rattle.http_wire.specs.Inner.BodyReading.{MovedNone}
+use Rattle.http_wire.specs.Reading.{Gave}
+use Rattle.http_wire.specs.Inner.BodyFinding.{CutsBody, FindsBody}
 use Rattle.upload_wire.specs.Inner.RequestReading.{DescribesAll, FindsRequest}
 use Rattle.upload_wire.specs.Told.{HasLine}
 use Rattle.upload_wire.specs.RequestText.{style_of, HasCutBody, FindsNext, ReadsNext}
@@ -26,13 +25,11 @@ use Rattle.http_wire.specs.Faults.{wire_of_input, wire_of_body}
 use Rattle.http_wire.specs.declared.fault.InputFault.{InputFault}
 use Rattle.http_wire.specs.declared.fault.InputFault.TheVariants as Input
 use Rattle.http_wire.specs.declared.fault.BodyFault.{BodyFault}
-use Rattle.http_wire.specs.declared.fault.BodyFault.TheVariants as Body
 use Rattle.http_wire.specs.declared.fault.WireFault.{WireFault}
 use Rattle.http_wire.specs.declared.fault.WireFault.TheVariants as Fault
 use Rattle.upload_wire.specs.declared.request.Described.{Described}
 use Rattle.upload_wire.specs.declared.request.Came.{Came}
 use Rattle.upload_wire.specs.declared.request.Came.TheVariants as cames
-use Rattle.upload_service.specs.declared.ask.Request.TheVariants.{Held, Gone}
 use Rattle.upload_wire.specs.Inner.Coming.{came_in, held_in}
 use Rattle.upload_wire.specs.declared.request.Next.{Next}
 use Rattle.upload_wire.specs.declared.request.Next.TheVariants.{Request, Over}
@@ -186,13 +183,6 @@ request_next max old held new p d (Err Fault.Read) f says b = record {
 request_next max old held new p d (Err Fault.NoMemory) f says b = search (rules, arith)
 request_next max old held new p d (Err Fault.Ended) f says b = absurd b
 
--- what is found behind a head if its body stopped
-pub body_fault : (d : Described) (old new : InputState) (body : List ℕ) (e : BodyFault)
-    → FindsBody d.framing old new body (Err e) → FindsRequest d old new (Err (wire_of_body e))
-body_fault d old new body Body.Truncated b = b
-body_fault d old new body Body.Read b = b
-body_fault d old new body Body.NoMemory b = b
-
 -- why no head came
 pub head_fault_next : (max : ℕ) (text : List ℕ) (new : InputState) (e : InputFault)
     → FindsHead request_spans (input_state text new.source) (Err e) → FindsNext max text new (Err (wire_of_input e))
@@ -230,45 +220,15 @@ described max front p d method target range m t r asks is_head keeps framed = re
 
 -- ---- bytes that were let go
 
--- a body was taken, and no more is said of it
-pub taken_none : (framing : Framing) (old new : InputState) (body : List ℕ) → TakesBody framing old new body
-    → MovedNone old new.source
-taken_none framing old new body taken = record { text = taken.text ++ new.held; gave = taken.gave }
-
 -- what is over as it came, is over
 pub not_over : (came : Result Came WireFault) → ¬ (came ≡ Ok cames.Over) → ¬ (came_in came ≡ Ok Over)
-not_over (Ok (cames.Request request style)) h = λ e. cc
-not_over (Ok cames.Over) h = λ e. h refl
-not_over (Ok (cames.Bad why)) h = λ e. cc
-not_over (Err fault) h = λ e. cc
+not_over came h = search (rules, arith)
 
 held_found : (max : ℕ) (old new : InputState) (came : Result Came WireFault) → ReadsNext max old new (came_in came)
     → ReadsNext max old new (held_in came)
-held_found max old new (Ok (cames.Request (Held ask) style)) n = n
-held_found max old new (Ok (cames.Request (Gone chunk) style)) n =
-    record { given = n.given; gives = n.gives; found = tt }
-held_found max old new (Ok cames.Over) n = n
-held_found max old new (Ok (cames.Bad why)) n = n
-held_found max old new (Err fault) n = n
+held_found max old new came n = search (rules, arith)
 
 -- what was found, if it is taken only with its bytes
 pub held_next : (max : ℕ) (old new : InputState) (came : Result Came WireFault) (r : Result Next WireFault)
     → r ≡ held_in came → ReadsNext max old new (came_in came) → ReadsNext max old new r
 held_next max old new came r is n = subst (λ x. ReadsNext max old new x) (sym is) (held_found max old new came n)
-
-held_reads : (came : Result Came WireFault) → (held_in came ≡ Err Fault.Read → came ≡ Err Fault.Read)
-    × (came ≡ Err Fault.Read → held_in came ≡ Err Fault.Read)
-held_reads (Ok (cames.Request (Held ask) style)) = (λ e. absurd (cc), λ e. absurd (cc))
-held_reads (Ok (cames.Request (Gone chunk) style)) = (λ e. absurd (cc), λ e. absurd (cc))
-held_reads (Ok cames.Over) = (λ e. absurd (cc), λ e. absurd (cc))
-held_reads (Ok (cames.Bad why)) = (λ e. absurd (cc), λ e. absurd (cc))
-held_reads (Err fault) = (λ e. cc, λ e. cc)
-
--- and what it cost
-pub held_costs : (most : ℕ) (old new : SourceState) (came : Result Came WireFault) (r : Result Next WireFault)
-    → r ≡ held_in came → Costs most (came ≡ Err Fault.Read) old new → Costs most (r ≡ Err Fault.Read) old new
-held_costs most old new came r is costs = record {
-  reads = costs.reads;
-  failed = λ e. costs.failed ((held_reads came).0 (sym is ∙ e));
-  unfailed = λ not. costs.unfailed (λ e. not (is ∙ (held_reads came).1 e));
-}

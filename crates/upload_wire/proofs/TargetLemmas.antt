@@ -1,4 +1,5 @@
 -- Texts cut at their last slash.
+use Rattle.std.proofs.lemmas.Grind.{common_steps}
 use Rattle.std.proofs.Common.{◌≡◌, ◌≢◌, ℕ, ◌+◌, ◌-◌, ◌<◌, ◌≤◌, List, [], ◌∷◌, ◌++◌, length, get_or, take, drop, refl}
 use Rattle.std.proofs.Common.{sym, ap, ◌∙◌, arith, append_assoc, length-append, drop-cons, add-one, rules}
 use Rattle.std.proofs.lemmas.List.{take-append-drop}
@@ -51,10 +52,7 @@ before_taken text suffix le same = cc (take-append-drop (length text - length su
 
 pub not_before_suffix : (text suffix front : List ℕ) → (drop (length text - length suffix) text ≡ suffix → ⊥)
     → text ≢ front ++ suffix
-not_before_suffix text suffix front other e =
-    let l = ap length e in
-    let n : length text - length suffix ≡ length front = omega (arith, l, length-append front suffix) in
-    other (ap (λ k. drop k text) n ∙ ap (drop (length front)) e ∙ drop-append_seam front suffix)
+not_before_suffix text suffix front other e = grind (arith, common_steps, length-append, drop-append_seam)
 
 pub after_found : (text prefix : List ℕ) (r : Option (Bor (List ℕ)))
     → MatchOption r (bytes_eq (take (length prefix) text) prefix ≡ false)

@@ -1,4 +1,5 @@
 -- What the observer of a connection is told, step by step.
+use Rattle.std.proofs.lemmas.Grind.{common_steps}
 use Rattle.std.proofs.Common.{◌≡◌, ℕ, ◌+◌, List, [], ◌∷◌, ◌++◌, length, refl, sym, ap, ◌∙◌, subst, append_assoc, inl}
 use Rattle.std.proofs.Common.{inr, arith}
 use Rattle.std.specs.Prelude.{◌⊎◌, Option, Some, None, IfSome, Result, Ok, Err}
@@ -53,13 +54,7 @@ hears_more telling a b c (e ∷ es) fs h k = (h.0, h.1, hears_more telling h.0 b
 -- ---- lines
 
 pub line_more : (text more method target : List ℕ) → HasLine text method target → HasLine (text ++ more) method target
-line_more text more method target l = record {
-  head = l.head;
-  rest = l.rest ++ more;
-  reads = ReadsHead-more more refl l.reads;
-  is_method = l.is_method;
-  is_target = l.is_target;
-}
+line_more text more method target l = grind (arith, common_steps, ReadsHead-more)
 
 head_in : RequestHead → HeadParse requests → RequestHead
 head_in other (head h rest) = h
@@ -87,10 +82,7 @@ line_within max text message rest ask style method target cut request line =
 
 tells_behind : (text method target : List ℕ) (r : Result Next WireFault) → HasLine text method target → ¬ (r ≡ Ok Over)
     → TellsNext text r (Head method target ∷ [])
-tells_behind text method target (Ok (Request ask style)) line came = search (rules, arith)
-tells_behind text method target (Ok Over) line came = absurd (came refl)
-tells_behind text method target (Ok (nexts.Bad why)) line came = (Head method target, line, refl)
-tells_behind text method target (Err fault) line came = search (rules, arith)
+tells_behind text method target r line came = search (rules, arith)
 
 module _ {O : Type 0} (telling : Telling O) (max : ℕ) (first mid : InputState)
     (gave : Gave first mid.source mid.held) (old : O) where

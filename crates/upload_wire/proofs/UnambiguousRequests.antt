@@ -1,18 +1,17 @@
 -- A text begins with at most one request.
-use Rattle.std.proofs.Common.{◌≡◌, ◌≢◌, ℕ, ◌<◌, Bool, true, false, List, [], ◌∷◌, ◌++◌, length, refl, sym, ap, ◌∙◌}
+use Rattle.std.proofs.Common.{◌≡◌, ◌≢◌, ℕ, ◌<◌, Bool, true, false, List, [], ◌++◌, length, refl, sym, ap, ◌∙◌}
 use Rattle.std.proofs.Common.{subst, arith, inl, inr, rules}
-use Rattle.std.specs.Prelude.{◌⊎◌, Result, Ok, Err, if◌then◌else◌, ◌&&◌, ◌==◌, codes}
+use Rattle.std.specs.Prelude.{◌⊎◌, Result, Ok, Err, if◌then◌else◌}
 use Rattle.std.proofs.lemmas.List.{append_cancel_right}
 use Rattle.httparse.specs.Grammar.{RequestHead}
 use Rattle.upload_service.specs.declared.ask.Ask.{Ask}
 use Rattle.http_wire.specs.Fronts as front
 use Rattle.http_wire.specs.Fronts.{IsRefused, ReadsHead, requests}
-use Rattle.http_wire.specs.Fields.{same_word}
 use Rattle.http_wire.specs.Body.{sized, framing_by, head_framing, IsBadBody}
 use Rattle.http_wire.specs.Unambiguous.{HeadParse, head, long, unfinished, BeginsWith, BodyParse, whole, refused}
 use Rattle.http_wire.specs.Unambiguous.{IsReadAs, cut as cut_body}
 use Rattle.http_wire.specs.declared.body.Framing.{Framing}
-use Rattle.http_wire.specs.declared.body.Framing.TheVariants.{Length, Chunked}
+use Rattle.http_wire.specs.declared.body.Framing.TheVariants.{Chunked}
 use Rattle.http_wire.specs.declared.fault.Bad.{Bad}
 use Rattle.http_wire.specs.declared.fault.Bad.TheVariants as bads
 use Rattle.http_wire.proofs.Heads.HeadLemmas.{none_at_start}
@@ -32,9 +31,7 @@ use Rattle.upload_wire.proofs.UnambiguousTargets.{asks_whole_unique}
 -- a length is never bad as a head
 length_no_head : (number over : Bool) (n : ℕ)
     → sized (if number then (if over then Err bads.TooLarge else Ok n) else Err bads.Length) ≡ Err bads.Head → ⊥
-length_no_head true true n e = absurd (cc)
-length_no_head true false n e = absurd (cc)
-length_no_head false over n e = absurd (cc)
+length_no_head number over n e = search (rules, arith)
 
 coding_no_head : (max : ℕ) (known : Bool)
     → ◌≡◌ {A = Result Framing Bad} (if known then Ok (Chunked max) else Err bads.Coding) (Err bads.Head) → ⊥
@@ -44,23 +41,13 @@ coding_no_head max false e = absurd (cc)
 -- nor is a framing
 framing_no_head : (max minor : ℕ) (codings lengths : List (List ℕ))
     → framing_by max minor codings lengths ≡ Err bads.Head → ⊥
-framing_no_head max minor [] [] e = absurd (cc)
-framing_no_head max minor [] (value ∷ []) e = search (rules, arith, length_no_head)
-framing_no_head max minor [] (value ∷ other ∷ values) e = absurd (cc)
-framing_no_head max minor (coding ∷ []) [] e = coding_no_head max ((minor == 1) && same_word coding (codes "chunked")) e
-framing_no_head max minor (coding ∷ other ∷ codings) [] e = absurd (cc)
-framing_no_head max minor (coding ∷ codings) (value ∷ values) e = absurd (cc)
+framing_no_head max minor codings lengths e = search (rules, arith, length_no_head, coding_no_head)
 
 body_no_head : (framing : Framing) (text : List ℕ) → IsBadBody framing text bads.Head → ⊥
-body_no_head (Length n) text x = x
-body_no_head (Chunked most) text (inl x) = let e = x.0 in absurd (cc)
-body_no_head (Chunked most) text (inr x) = let e = x.0 in absurd (cc)
+body_no_head framing text x = search (rules, arith)
 
 refused_head : (max : ℕ) (text : List ℕ) → IsBad max text bads.Head → IsRefused requests text
-refused_head max text (inl x) = x.1
-refused_head max text (inr (inl x)) = let e = x.0 in absurd (cc)
-refused_head max text (inr (inr (inl x))) = search (rules, arith, framing_no_head)
-refused_head max text (inr (inr (inr x))) = absurd (body_no_head x.framing x.rest x.refused)
+refused_head max text h = search (rules, arith, framing_no_head, body_no_head)
 
 -- ---- what stands behind a head
 

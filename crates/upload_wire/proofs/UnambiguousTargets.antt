@@ -42,8 +42,7 @@ upload_cut : (path name tail : List ℕ) → path ≡ upload_path name tail
     → path ≡ 47 ∷ 118 ∷ 50 ∷ 47 ∷ ((name ++ uploads) ++ 47 ∷ tail)
 unfolding uploads
 upload_cut path name tail e =
-    cc
-    (append_assoc name (47 ∷ 98 ∷ 108 ∷ 111 ∷ 98 ∷ 115 ∷ 47 ∷ 117 ∷ 112 ∷ 108 ∷ 111 ∷ 97 ∷ 100 ∷ 115 ∷ [])
+    cc (append_assoc name (47 ∷ 98 ∷ 108 ∷ 111 ∷ 98 ∷ 115 ∷ 47 ∷ 117 ∷ 112 ∷ 108 ∷ 111 ∷ 97 ∷ 100 ∷ 115 ∷ [])
     (47 ∷ tail))
 
 -- two such cuts of one path are the same
@@ -56,21 +55,20 @@ same_cut path front tail other behind x y none clear = search (rules, arith, cut
 not_both : (name other : List ℕ) → name ++ blobs ≡ other ++ uploads → ⊥
 unfolding blobs uploads
 not_both name other e =
-    let one =
-    snoc_inj (name ++ (47 ∷ 98 ∷ 108 ∷ 111 ∷ 98 ∷ []))
-    (other ++ (47 ∷ 98 ∷ 108 ∷ 111 ∷ 98 ∷ 115 ∷ 47 ∷ 117 ∷ 112 ∷ 108 ∷ 111 ∷ 97 ∷ 100 ∷ []))
-    115 115
-    (append_assoc name (47 ∷ 98 ∷ 108 ∷ 111 ∷ 98 ∷ []) (115 ∷ []) ∙ e
-    ∙ sym
-    (append_assoc other (47 ∷ 98 ∷ 108 ∷ 111 ∷ 98 ∷ 115 ∷ 47 ∷ 117 ∷ 112 ∷ 108 ∷ 111 ∷ 97 ∷ 100 ∷ []) (115 ∷ []))) in
-    let two =
-    snoc_inj (name ++ (47 ∷ 98 ∷ 108 ∷ 111 ∷ []))
-    (other ++ (47 ∷ 98 ∷ 108 ∷ 111 ∷ 98 ∷ 115 ∷ 47 ∷ 117 ∷ 112 ∷ 108 ∷ 111 ∷ 97 ∷ []))
-    98 100
-    (append_assoc name (47 ∷ 98 ∷ 108 ∷ 111 ∷ []) (98 ∷ []) ∙ one.0
-    ∙ sym (append_assoc other (47 ∷ 98 ∷ 108 ∷ 111 ∷ 98 ∷ 115 ∷ 47 ∷ 117 ∷ 112 ∷ 108 ∷ 111 ∷ 97 ∷ []) (100 ∷ []))) in
-    let b = two.1 in
-    absurd (omega (arith, b))
+    grind (
+      arith,
+      snoc_inj (name ++ (47 ∷ 98 ∷ 108 ∷ 111 ∷ 98 ∷ []))
+          (other ++ (47 ∷ 98 ∷ 108 ∷ 111 ∷ 98 ∷ 115 ∷ 47 ∷ 117 ∷ 112 ∷ 108 ∷ 111 ∷ 97 ∷ 100 ∷ [])) 115 115
+          (append_assoc name (47 ∷ 98 ∷ 108 ∷ 111 ∷ 98 ∷ []) (115 ∷ []) ∙ e
+          ∙ sym (append_assoc other (47 ∷ 98 ∷ 108 ∷ 111 ∷ 98 ∷ 115 ∷ 47 ∷ 117 ∷ 112 ∷ 108 ∷ 111 ∷ 97 ∷ 100 ∷ [])
+          (115 ∷ []))),
+      append_assoc name (47 ∷ 98 ∷ 108 ∷ 111 ∷ 98 ∷ []) (115 ∷ []),
+      append_assoc other (47 ∷ 98 ∷ 108 ∷ 111 ∷ 98 ∷ 115 ∷ 47 ∷ 117 ∷ 112 ∷ 108 ∷ 111 ∷ 97 ∷ 100 ∷ []) (115 ∷ []),
+      snoc_inj (name ++ (47 ∷ 98 ∷ 108 ∷ 111 ∷ []))
+          (other ++ (47 ∷ 98 ∷ 108 ∷ 111 ∷ 98 ∷ 115 ∷ 47 ∷ 117 ∷ 112 ∷ 108 ∷ 111 ∷ 97 ∷ [])) 98 100,
+      append_assoc name (47 ∷ 98 ∷ 108 ∷ 111 ∷ []) (98 ∷ []),
+      append_assoc other (47 ∷ 98 ∷ 108 ∷ 111 ∷ 98 ∷ 115 ∷ 47 ∷ 117 ∷ 112 ∷ 108 ∷ 111 ∷ 97 ∷ []) (100 ∷ []),
+    )
 
 -- "/v2/" has no further slash
 base_has_no_cut : (path front tail : List ℕ) → path ≡ 47 ∷ 118 ∷ 50 ∷ 47 ∷ []

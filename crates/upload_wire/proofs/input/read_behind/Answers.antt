@@ -1,5 +1,5 @@
-use Rattle.std.proofs.Common.{subst, take}
-use Rattle.std.specs.Prelude.{Ok, Err}
+use Rattle.std.proofs.Common.{subst, take, arith}
+use Rattle.std.specs.Prelude.{Ok}
 use Rattle.http_wire.specs.States.{input_state}
 use Rattle.http_wire.specs.Inputs.{input_of}
 use Rattle.upload_wire.specs.Inner.Coming.{came_in}
@@ -19,14 +19,8 @@ returns-in-Ok-clause-found g c =
     let left = input_of g.S.ByteSource.state c.read_request.new.input in
     let found = subst (λ t. FindsRequest c.in-Ok.described (input_state t source) left (came_in c.read_request.result))
     c.take.ensures.taken (rw c.take.ensures.unread at c.read_request.ensures.found) in
-    request_next c.args.max_body source text left p c.in-Ok.described (came_in c.read_request.result) c.requires.head says found
+    request_next c.args.max_body source text left p c.in-Ok.described (came_in c.read_request.result) c.requires.head
+    says found
 
 pub returns-in-Err-clause-found : goal.returns-in-Err-clause-found
-returns-in-Err-clause-found g c =
-    let p = c.args.parsed.now in
-    let text = c.args.input.now.buffer.now in
-    let refused = subst (λ t. Describes c.args.max_body (take p.spans.len t) p (Ok (Err c.in-Err.bad))) c.unread.ensures
-    (subst (λ r. Describes c.args.max_body (take p.spans.len c.unread.result.now) p (Ok r)) c.in-Err.is
-    c.in_ok-described.ensures.found) in
-    bad_framing_next c.args.max_body (input_of g.S.ByteSource.state c.args.input.now) p c.in-Err.bad c.requires.head
-    refused
+returns-in-Err-clause-found g c = grind (arith, bad_framing_next)

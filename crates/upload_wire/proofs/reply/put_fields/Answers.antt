@@ -1,10 +1,9 @@
 use Rattle.std.proofs.Common.{◌∙◌, ◌++◌, ap, subst, sym}
-use Rattle.std.specs.Prelude.{codes, flat_map}
+use Rattle.std.specs.Prelude.{flat_map}
 use Rattle.upload_texts.specs.declared.error.ErrorCode.TheVariants.{BlobUploadInvalid}
 use Rattle.http_wire.specs.HeadText.{length_field, print_field}
-use Rattle.upload_wire.specs.ReplyText.{allow_fields, blob_location, error_fields, reply_of, upload_fields}
-use Rattle.upload_wire.specs.ReplyText.{upload_location}
-use Rattle.upload_wire.proofs.ReplyLemmas.{fields_and, fields_both, found_text, two_fields}
+use Rattle.upload_wire.specs.ReplyText.{allow_fields, error_fields, reply_of, upload_fields}
+use Rattle.upload_wire.proofs.ReplyLemmas.{fields_and, fields_both, found_text}
 use Rattle.http_wire.specs.Inner.Gathering.{Gathered}
 use Rattle.upload_wire.proofs.reply.put_fields.Goals as goal
 
@@ -16,24 +15,6 @@ returns-in-Blob g c = λ start before held.
     (subst (Gathered start (g.W.ByteSink.state c.put_length.new.writer) c.put_length.new.self)
     (found_text before c.in-Blob.size sum)
     (c.put_length.ensures start _ (c.put_field-in-Blob.ensures start _ (c.put_field.ensures start before held))))
-
-pub returns-in-Begun : goal.returns-in-Begun
-returns-in-Begun g c = λ start before held.
-    subst (λ t.
-    Gathered start (g.W.ByteSink.state c.put_length-in-Begun.new.writer) c.put_length-in-Begun.new.self (before ++ t))
-    (ap (λ a. flat_map print_field (reply_of a).fields) (sym c.in-Begun.is))
-    (subst (Gathered start (g.W.ByteSink.state c.put_length-in-Begun.new.writer) c.put_length-in-Begun.new.self)
-    (two_fields before (codes "Location", upload_location c.in-Begun.name c.in-Begun.at) (length_field 0))
-    (c.put_length-in-Begun.ensures start _ (c.put_upload_location.ensures start before held)))
-
-pub returns-in-Stored : goal.returns-in-Stored
-returns-in-Stored g c = λ start before held.
-    subst (λ t.
-    Gathered start (g.W.ByteSink.state c.put_length-in-Stored.new.writer) c.put_length-in-Stored.new.self (before ++ t))
-    (ap (λ a. flat_map print_field (reply_of a).fields) (sym c.in-Stored.is))
-    (subst (Gathered start (g.W.ByteSink.state c.put_length-in-Stored.new.writer) c.put_length-in-Stored.new.self)
-    (two_fields before (codes "Location", blob_location c.in-Stored.name c.in-Stored.digest) (length_field 0))
-    (c.put_length-in-Stored.ensures start _ (c.put_blob_location.ensures start before held)))
 
 pub returns-in-Taken : goal.returns-in-Taken
 returns-in-Taken g c = λ start before held.

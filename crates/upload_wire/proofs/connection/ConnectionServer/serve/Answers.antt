@@ -1,10 +1,9 @@
-use Rattle.std.proofs.Common.{◌∙◌, ap, arith, refl}
+use Rattle.std.proofs.Common.{◌∙◌, ap, arith, refl, rules}
 use Rattle.upload_wire.proofs.ToldLemmas.{starts_told, goes_on_told, ends_told}
 use Rattle.upload_wire.proofs.connection.ConnectionServer.serve.Goals as goal
 
 pub loop-end-init : goal.loop-end-init
-loop-end-init g c =
-    (starts_told g.D.Desk.moves g.O.Observer.told _ _ _ _ _ _ _ _ _ (ap (λ i. i.held) c.begin.ensures) refl, refl)
+loop-end-init g c = search (rules, arith, starts_told)
 
 pub loop-end-preserved : goal.loop-end-preserved
 loop-end-preserved g c = (
@@ -12,13 +11,6 @@ loop-end-preserved g c = (
       c.loop-end.invariant.1 c.loop-end.invariant.0 (c.in_default.ensures.goes_on refl),
   c.in_default.ensures.limit ∙ c.loop-end.invariant.1,
 )
-
-pub loop-end-smaller : goal.loop-end-smaller
-loop-end-smaller g c =
-    let counted = c.loop-end.invariant.0.so_far.counted in
-    let few = c.loop-end.invariant.0.so_far.served.few in
-    let more = (c.in_default.ensures.goes_on refl).goes_on.counted in
-    omega (arith, counted, few, more)
 
 pub returns-in-Some-clause-told : goal.returns-in-Some-clause-told
 returns-in-Some-clause-told g c = rw (← c.self.view_is, ← ap (λ i. i.max_body) c.begin.ensures)

@@ -1,4 +1,4 @@
-use Rattle.std.proofs.Common.{◌≡◌, ◌+◌, ◌∙◌, ap, subst}
+use Rattle.std.proofs.Common.{◌≡◌, ◌+◌, ◌∙◌, ap, subst, arith, rules}
 use Rattle.std.specs.Prelude.{Ok}
 use Rattle.upload_wire.specs.Inner.ConversationSteps.{IsRepliedTo, styled}
 use Rattle.http_wire.specs.States.{input_state}
@@ -9,7 +9,8 @@ use Rattle.upload_wire.specs.Inner.Coming.{came_in}
 use Rattle.upload_service.specs.Requests.{ask_in}
 use Rattle.http_wire.specs.declared.fault.WireFault.TheVariants.{Read}
 use Rattle.upload_wire.proofs.ConversationLemmas.{ok_not_err}
-use Rattle.upload_wire.proofs.ToldLemmas.{one_more_told, one_last_told, gone_told, unasked_told, refusal_told, stopped_told}
+use Rattle.upload_wire.proofs.ToldLemmas.{one_more_told, one_last_told, gone_told, unasked_told}
+use Rattle.upload_wire.proofs.ToldLemmas.{refusal_told, stopped_told}
 use Rattle.upload_wire.proofs.connection.ConnectionServer.serve_next.Goals as goal
 
 pub returns-in-Ok-Some-clause-goes_on : goal.returns-in-Ok-Some-clause-goes_on
@@ -17,9 +18,11 @@ returns-in-Ok-Some-clause-goes_on g c =
     λ none.
     one_more_told g.D.Desk.moves g.O.Observer.told c.args.self.now.max_body c.args.self.now.answered
     c.args.self.now.held c.read_next.new.self.held
-    (g.S.ByteSource.state c.args.reader.now) (g.S.ByteSource.state c.read_next.new.reader) (ask_in c.in-Ok-Request.request)
+    (g.S.ByteSource.state c.args.reader.now) (g.S.ByteSource.state c.read_next.new.reader)
+    (ask_in c.in-Ok-Request.request)
     c.in-Ok-Request.style
-    c.args.desk.now c.ask_desk.new.desk (g.W.ByteSink.state c.args.writer.now) c.args.observer.now c.read_next.new.observer
+    c.args.desk.now c.ask_desk.new.desk (g.W.ByteSink.state c.args.writer.now) c.args.observer.now
+    c.read_next.new.observer
     (subst (λ n. ReadsTold g.O.Observer.told c.args.self.now.max_body
     (listening (input_state c.args.self.now.held (g.S.ByteSource.state c.args.reader.now)) c.args.observer.now)
     (listening (input_state c.read_next.new.self.held (g.S.ByteSource.state c.read_next.new.reader))
@@ -42,9 +45,11 @@ pub returns-in-Ok-Some-clause-stops : goal.returns-in-Ok-Some-clause-stops
 returns-in-Ok-Some-clause-stops g c =
     one_last_told g.D.Desk.moves g.O.Observer.told c.args.self.now.max_body c.args.self.now.answered
     c.args.self.now.held c.read_next.new.self.held
-    (g.S.ByteSource.state c.args.reader.now) (g.S.ByteSource.state c.read_next.new.reader) (ask_in c.in-Ok-Request.request)
+    (g.S.ByteSource.state c.args.reader.now) (g.S.ByteSource.state c.read_next.new.reader)
+    (ask_in c.in-Ok-Request.request)
     c.in-Ok-Request.style
-    c.args.desk.now c.ask_desk.new.desk (g.W.ByteSink.state c.args.writer.now) c.args.observer.now c.read_next.new.observer
+    c.args.desk.now c.ask_desk.new.desk (g.W.ByteSink.state c.args.writer.now) c.args.observer.now
+    c.read_next.new.observer
     (subst (λ n. ReadsTold g.O.Observer.told c.args.self.now.max_body
     (listening (input_state c.args.self.now.held (g.S.ByteSource.state c.args.reader.now)) c.args.observer.now)
     (listening (input_state c.read_next.new.self.held (g.S.ByteSource.state c.read_next.new.reader))
@@ -63,9 +68,11 @@ pub returns-in-Ok-None-clause-stops : goal.returns-in-Ok-None-clause-stops
 returns-in-Ok-None-clause-stops g c =
     gone_told g.D.Desk.moves g.O.Observer.told c.args.self.now.max_body c.args.self.now.answered c.args.self.now.held
     c.read_next.new.self.held
-    (g.S.ByteSource.state c.args.reader.now) (g.S.ByteSource.state c.read_next.new.reader) (ask_in c.in-Ok-Request.request)
+    (g.S.ByteSource.state c.args.reader.now) (g.S.ByteSource.state c.read_next.new.reader)
+    (ask_in c.in-Ok-Request.request)
     c.in-Ok-Request.style
-    c.args.desk.now c.ask_desk.new.desk (g.W.ByteSink.state c.args.writer.now) c.args.observer.now c.read_next.new.observer
+    c.args.desk.now c.ask_desk.new.desk (g.W.ByteSink.state c.args.writer.now) c.args.observer.now
+    c.read_next.new.observer
     (subst (λ n. ReadsTold g.O.Observer.told c.args.self.now.max_body
     (listening (input_state c.args.self.now.held (g.S.ByteSource.state c.args.reader.now)) c.args.observer.now)
     (listening (input_state c.read_next.new.self.held (g.S.ByteSource.state c.read_next.new.reader))
@@ -77,20 +84,7 @@ returns-in-Ok-None-clause-stops g c =
     c.in-Ok-None.field-0-is c.in-Ok-None.ensures.asked)
 
 pub returns-in-Err-ask_desk-clause-stops : goal.returns-in-Err-ask_desk-clause-stops
-returns-in-Err-ask_desk-clause-stops g c =
-    unasked_told g.D.Desk.moves g.O.Observer.told c.args.self.now.max_body c.args.self.now.answered c.args.self.now.held
-    c.read_next.new.self.held
-    (g.S.ByteSource.state c.args.reader.now) (g.S.ByteSource.state c.read_next.new.reader) (ask_in c.in-Ok-Request.request)
-    c.in-Ok-Request.style
-    c.args.desk.now c.ask_desk.new.desk (g.W.ByteSink.state c.args.writer.now) c.args.observer.now
-    c.read_next.new.observer
-    (subst (λ n. ReadsTold g.O.Observer.told c.args.self.now.max_body
-    (listening (input_state c.args.self.now.held (g.S.ByteSource.state c.args.reader.now)) c.args.observer.now)
-    (listening (input_state c.read_next.new.self.held (g.S.ByteSource.state c.read_next.new.reader))
-    c.read_next.new.observer) (came_in (Ok n)))
-    c.in-Ok-Request.field-0-is c.in-Ok-Request.ensures.told)
-    (c.in-Ok-Request.ensures.costs.unfailed (ok_not_err c.in-Ok-Request.field-0 Read))
-    c.read_next.new.self.held c.read_next.new.self.answered c.in-Err-ask_desk.ensures.unasked
+returns-in-Err-ask_desk-clause-stops g c = search (rules, arith, unasked_told, ok_not_err)
 
 pub returns-in-Ok-Bad-clause-stops : goal.returns-in-Ok-Bad-clause-stops
 returns-in-Ok-Bad-clause-stops g c =
@@ -111,10 +105,4 @@ returns-in-Ok-Bad-clause-stops g c =
     c.read_next.new.self.held c.read_next.new.self.answered c.refuse-end.result c.refuse-end.ensures
 
 pub returns-in-Err-clause-stops : goal.returns-in-Err-clause-stops
-returns-in-Err-clause-stops g c =
-    stopped_told g.D.Desk.moves g.O.Observer.told c.args.self.now.max_body c.args.self.now.answered c.args.self.now.held
-    c.read_next.new.self.held
-    (g.S.ByteSource.state c.args.reader.now) (g.S.ByteSource.state c.read_next.new.reader)
-    c.args.desk.now (g.W.ByteSink.state c.args.writer.now) c.args.observer.now c.read_next.new.observer
-    c.in-Err.fault c.in-Err.ensures.told c.in-Err.ensures.costs
-    c.read_next.new.self.held c.read_next.new.self.answered
+returns-in-Err-clause-stops g c = search (rules, arith, stopped_told)
