@@ -1,6 +1,6 @@
 -- What crashes leave of batches and of the bodies that they name.
-use Rattle.std.proofs.Common.{◌≡◌, ◌⊎◌, ◌∙◌, inl, inr, ℕ, ◌+◌, List, [], ◌∷◌, ◌++◌, Option, sym, ap}
-use Rattle.std.proofs.Common.{subst, Some, None}
+use Rattle.std.proofs.Common.{◌≡◌, ◌⊎◌, ◌∙◌, inl, inr, ℕ, ◌+◌, List, [], ◌∷◌, ◌++◌, Option, sym, ap, rules}
+use Rattle.std.proofs.Common.{subst, None}
 use Rattle.std.proofs.Common.{arith, length}
 use Rattle.std.specs.List.{All}
 use Rattle.std.proofs.lemmas.Bool.Decides.{eqb_tells}
@@ -17,10 +17,7 @@ module _ {S : Type 0} (held : S → ℕ → Option (List ℕ)) (may_leave : S �
 
   pub keeps_safe : (old new : S) (n : ℕ) (bytes : List ℕ) → Keeps held may_leave old new n
       → IsSafe held may_leave old n bytes → IsSafe held may_leave new n bytes
-  keeps_safe old new n bytes keeps safe = record {
-    there = keeps.same ∙ safe.there;
-    stored = λ left may. safe.stored left (keeps.left left may);
-  }
+  keeps_safe old new n bytes keeps safe = search (rules, arith)
 
   pub others_then : (old mid new : S) (number : ℕ) → KeepsOthers held may_leave old mid number
       → KeepsOthers held may_leave mid new number → KeepsOthers held may_leave old new number
@@ -37,18 +34,12 @@ module _ {S : Type 0} (held : S → ℕ → Option (List ℕ)) (may_leave : S �
   -- a number that had no file takes nothing that is safe
   pub others_still : (old new : S) (number : ℕ) → KeepsOthers held may_leave old new number → held old number ≡ None
       → Still old new
-  others_still old new number others none n bytes safe =
-      keeps_safe old new n bytes
-      (others.each n (λ e. let wrong : Some bytes ≡ None = sym safe.there ∙ ap (held old) e ∙ none in absurd cc)) safe
+  others_still old new number others none n bytes safe = search (rules, arith, keeps_safe)
 
   -- nor does one that had a file and has it still
   pub either_still : (old new : S) (number : ℕ) → KeepsOthers held may_leave old new number
       → Keeps held may_leave old new number ⊎ (held old number ≡ None) → Still old new
-  either_still old new number others (inl same) n bytes safe =
-      elim (eqb_tells n number) [
-        | inl e ↦ keeps_safe old new n bytes (subst (Keeps held may_leave old new) (sym e.1) same) safe
-        | inr apart ↦ keeps_safe old new n bytes (others.each n apart.1) safe
-      ]
+  either_still old new number others (inl same) n bytes safe = search (rules, arith, eqb_tells, keeps_safe)
   either_still old new number others (inr none) n bytes safe = others_still old new number others none n bytes safe
 
   pub reads_still : (IsClean : S → Type 0) (old new : S) → ReadsOnly held may_leave IsClean old new → Still old new
@@ -57,10 +48,7 @@ module _ {S : Type 0} (held : S → ℕ → Option (List ℕ)) (may_leave : S �
   -- it stays so over a crash
   pub crash_still : (old new : S) → ((n : ℕ) → may_leave old n (held new n))
       → ((n : ℕ) (left : Option (List ℕ)) → may_leave new n left → may_leave old n left) → Still old new
-  crash_still old new left no_more n bytes safe = record {
-    there = safe.stored (held new n) (left n);
-    stored = λ file may. safe.stored file (no_more n file may);
-  }
+  crash_still old new left no_more n bytes safe = search (rules, arith)
 
   -- ---- bodies behind one another
 
@@ -68,20 +56,14 @@ module _ {S : Type 0} (held : S → ℕ → Option (List ℕ)) (may_leave : S �
       → AreWritten held may_leave old first bodies → AreWritten held may_leave new first bodies
   written_still old new still first [] written = tt
   written_still old new still first (body ∷ bodies) written =
-      (still first body written.0, written_still old new still (first + 1) bodies written.1)
+      search (rules, arith, written_still old new still (first + 1) bodies written.1)
 
   pub written_append : (shelf : S) (first : ℕ) (front back : List (List ℕ))
       → AreWritten held may_leave shelf first front → AreWritten held may_leave shelf (first + length front) back
       → AreWritten held may_leave shelf first (front ++ back)
-  written_append shelf first [] back front behind =
-      let same : first + 0 ≡ first = omega arith in
-      subst (λ n. AreWritten held may_leave shelf n back) same behind
+  written_append shelf first [] back front behind = search (rules, arith)
   written_append shelf first (body ∷ bodies) back front behind =
-      let same : first + length (body ∷ bodies) ≡ first + 1 + length bodies = omega arith in (
-        front.0,
-        written_append shelf (first + 1) bodies back front.1
-            (subst (λ n. AreWritten held may_leave shelf n back) same behind),
-      )
+      search (rules, arith, written_append shelf (first + 1) bodies back front.1)
 
   -- ---- after a crash
 

@@ -1,19 +1,18 @@
 -- What can be run again is not lost.
-use Rattle.std.proofs.Common.{◌≡◌, ◌≢◌, ◌∙◌, ◌⊎◌, inl, inr, ℕ, ◌+◌, List, [], ◌∷◌, ◌++◌, map, length}
+use Rattle.std.proofs.lemmas.Grind.{common_steps}
+use Rattle.std.proofs.Common.{◌≡◌, ◌≢◌, ◌∙◌, ◌⊎◌, inl, inr, ℕ, List, [], ◌∷◌, ◌++◌, map, length, rules}
 use Rattle.std.proofs.Common.{Option, Some, refl}
 use Rattle.std.proofs.Common.{sym, ap, subst, arith, Result, Ok}
-use Rattle.std.specs.Prelude.{min, max, is_some, true}
+use Rattle.std.specs.Prelude.{is_some, true}
 use Rattle.std.specs.List.{All}
 use Rattle.std.proofs.lemmas.List.{map-append}
 use Rattle.std.proofs.lemmas.List.Elements.{All-append, All-cons, All-head, All-nil, All-tail}
 use Rattle.journal.specs.Format.{Kept}
 use Rattle.journal.specs.Machine.{Runs, RunsRecords}
 use Rattle.upload_service.specs.declared.ask.Ask.{Ask}
-use Rattle.upload_service.specs.declared.ask.Ask.TheVariants as asks
-use Rattle.upload_service.specs.Machine.{State, Turn, IsLawful, answer_of, outcome, last_number}
+use Rattle.upload_service.specs.Machine.{State, Turn, IsLawful, answer_of, outcome}
 use Rattle.upload_service.specs.Run.{Exchange}
 use Rattle.upload_journal.specs.declared.bodies.BodyFault.{BodyFault}
-use Rattle.upload_journal.specs.declared.bodies.BodyFault.TheVariants as bodies
 use Rattle.upload_journal.specs.declared.body.BodyFile.{BodyFile}
 use Rattle.upload_journal.specs.declared.body.KeptBody.{KeptBody}
 use Rattle.upload_journal.specs.declared.body.KeptBody.TheVariants.{Here, InFiles}
@@ -21,7 +20,7 @@ use Rattle.upload_journal.specs.declared.entries.KeptAsk.{KeptAsk}
 use Rattle.upload_journal.specs.declared.entries.KeptAsk.TheVariants.{Opening, Single, Mount, Chunk, Close}
 use Rattle.upload_journal.specs.declared.entries.KeptExchange.{KeptExchange}
 use Rattle.upload_journal.specs.declared.entries.Entry.{Entry}
-use Rattle.upload_journal.specs.declared.entries.Entry.TheVariants.{Exchange as Kept', NumbersUpTo, MomentsUpTo}
+use Rattle.upload_journal.specs.declared.entries.Entry.TheVariants.{Exchange as Kept'}
 use Rattle.upload_journal.specs.declared.fault.EntryFault.{EntryFault}
 use Rattle.upload_journal.specs.declared.replay.ReplayFault.{ReplayFault}
 use Rattle.upload_journal.specs.declared.replay.ReplayFault.TheVariants.{NoMemory, NotAnEntry, MomentFalls, NoBody}
@@ -29,14 +28,13 @@ use Rattle.upload_journal.specs.declared.replay.ReplayFault.TheVariants.{OtherLe
 use Rattle.upload_journal.specs.Short.{told_of}
 use Rattle.upload_journal.specs.Entries.{IsEntry, entry_text, entry_of}
 use Rattle.upload_journal.specs.Replay.{Point, Joins, IsBodyOf, IsAskOf, IsExchangeOf, Exchanged, Applies, Replays}
-use Rattle.upload_journal.specs.Replay.{extent_of}
 use Rattle.upload_journal.specs.Stops.{OfOne, FileFails, FilesFail, ExchangeFails, Stops, files_of, files_in}
 use Rattle.upload_journal.proofs.Texts.{entry_read}
 use Rattle.upload_journal.proofs.Restart.{turn_leads}
 use Rattle.upload_journal.proofs.Foresight.{answer_is}
 use Rattle.upload_store.specs.Found.{texts_of}
 use Rattle.upload_store.specs.Runs.{stands_in, IsReplayOf}
-use Rattle.upload_store.specs.Salvage.{Stand, Salvages, refused_in, stand_at, finished, one_more}
+use Rattle.upload_store.specs.Salvage.{Stand, Salvages, refused_in, stand_at, finished}
 use Rattle.upload_store.proofs.Reruns.{replays_then, is_replay}
 use Rattle.upload_store.proofs.Rescues.{ready_first}
 
@@ -58,26 +56,14 @@ module _ (files : ℕ → Option (List ℕ)) (failed : Type 0) where
   one_joined : (parts : List BodyFile) (a b : List ℕ) → Joins stands parts a → Joins stands parts b → a ≡ b
   one_joined [] a b first second = first ∙ sym second
   one_joined (part ∷ parts) a b first second =
-      let front = one_file part.number first.0 second.0 first.3 second.3 in
-      let rest = one_joined parts first.1 second.1 first.5 second.5 in
-      first.2 ∙ (λ i. front i ++ rest i) ∙ sym second.2
+      cc (one_file part.number first.0 second.0 first.3 second.3, one_joined parts first.1 second.1 first.5 second.5)
 
   one_body : (body : KeptBody) (a b : List ℕ) → IsBodyOf stands body a → IsBodyOf stands body b → a ≡ b
   one_body (Here body) a b first second = first ∙ sym second
   one_body (InFiles parts) a b first second = one_joined parts a b first second
 
   one_ask : (kept : KeptAsk) (a b : Ask) → IsAskOf stands kept a → IsAskOf stands kept b → a ≡ b
-  one_ask (Opening name) a b first second = first ∙ sym second
-  one_ask (Single name digest body) a b first second =
-      let same = one_body body first.0 second.0 first.1 second.1 in
-      first.2 ∙ ap (λ l. asks.Single name (Some digest) l) same ∙ sym second.2
-  one_ask (Mount name digest source) a b first second = first ∙ sym second
-  one_ask (Chunk name at range body) a b first second =
-      let same = one_body body first.0 second.0 first.1 second.1 in
-      first.2 ∙ ap (λ l. asks.Chunk name at (extent_of range) l) same ∙ sym second.2
-  one_ask (Close name at range digest body) a b first second =
-      let same = one_body body first.0 second.0 first.1 second.1 in
-      first.2 ∙ ap (λ l. asks.Close name at (extent_of range) (Some digest) l) same ∙ sym second.2
+  one_ask kept a b first second = search (rules, arith, one_body)
 
   -- the answer of an exchange that counts is the one that its request comes to
   record Answered (p : Point) (kept : KeptExchange) (x : Exchange) : Type 0 where
@@ -87,17 +73,7 @@ module _ (files : ℕ → Option (List ℕ)) (failed : Type 0) where
 
   answered : (p : Point) (kept : KeptExchange) (x : Exchange) (q : Point) → IsExchangeOf stands kept x → Exchanged p x q
       → Answered p kept x
-  answered p kept x q is does =
-      let turn : (r : State) → Turn p.state x.ask x.secret x.now x.answer r
-      → Turn p.state x.ask kept.secret kept.now x.answer r =
-      λ r t. subst (λ s. Turn p.state x.ask s kept.now x.answer r) is.secret
-      (subst (λ n. Turn p.state x.ask x.secret n x.answer r) is.now t) in
-      record {
-        is =
-            answer_is p.state x.ask kept.secret kept.now x.answer q.state (turn q.state does.turn)
-            (λ none. absurd (cc (sym (ap told_of none) ∙ is.answer)));
-        turn = turn;
-      }
+  answered p kept x q is does = search (rules, arith, answer_is)
 
   some_told : (kept : KeptExchange) (x : Exchange) → IsExchangeOf stands kept x → is_some (told_of x.answer) ≡ true
   some_told kept x is = ap is_some is.answer
@@ -105,50 +81,29 @@ module _ (files : ℕ → Option (List ℕ)) (failed : Type 0) where
   one_exchange : (p : Point) (kept : KeptExchange) (q r : Point) (x y : Exchange) → IsExchangeOf stands kept x
       → Exchanged p x q → IsExchangeOf stands kept y → Exchanged p y r → q ≡ r
   one_exchange p kept q r x y is does is' does' =
-      let ask = one_ask kept.ask y.ask x.ask is'.ask is.ask in
-      let first = answered p kept x q is does in
-      let second = answered p kept y r is' does' in
-      let answer : y.answer ≡ x.answer = second.is
-      ∙ ap (λ a. answer_of (outcome p.state a kept.secret kept.now)) ask ∙ sym first.is in
-      let turn : Turn p.state x.ask kept.secret kept.now x.answer r.state =
-      subst (λ a. Turn p.state x.ask kept.secret kept.now a r.state) answer
-      (subst (λ a. Turn p.state a kept.secret kept.now y.answer r.state) ask (second.turn r.state does'.turn)) in
-      let state = turn_leads p.state x.ask kept.secret kept.now x.answer r.state q.state turn
-      (first.turn q.state does.turn) (some_told kept x is) in
-      let last = does.last ∙ is.now ∙ sym (does'.last ∙ is'.now) in
-      let upto = does.upto ∙ sym does'.upto in
-      λ i. record { state = state i; last = last i; upto = upto i }
+      grind (
+        arith,
+        one_ask kept.ask y.ask x.ask is'.ask is.ask,
+        answered p kept x q is does,
+        answered p kept y r is' does',
+        turn_leads p.state x.ask kept.secret kept.now x.answer r.state q.state,
+        some_told kept x is,
+      )
 
   one_point : (p : Point) (entry : Entry) (q r : Point) → Applies stands p entry q → Applies stands p entry r → q ≡ r
-  one_point p (Kept' kept) q r first second =
-      one_exchange p kept q r first.0 second.0 first.1 first.2 second.1 second.2
-  one_point p (NumbersUpTo n) q r first second = first ∙ sym second
-  one_point p (MomentsUpTo m) q r first second = first ∙ sym second
+  one_point p entry q r first second = search (rules, arith, one_exchange)
 
   -- ---- an entry that can be applied is not refused, unless a call of the shelf failed
 
   file_fails : (fault : ReplayFault) (file : BodyFile) (bytes : List ℕ) → fault ≢ NoMemory → stands file.number bytes
       → length bytes ≡ file.len → FileFails stands refused fault file → failed
-  file_fails NoMemory file bytes some there long fails = absurd (some refl)
-  file_fails (NotAnEntry fault) file bytes some there long fails = absurd fails
-  file_fails MomentFalls file bytes some there long fails = absurd fails
-  file_fails (NoBody number bodies.NoMemory) file bytes some there long fails = absurd (fails.2 refl)
-  file_fails (NoBody number bodies.NotThere) file bytes some there long fails =
-      absurd (cc (sym there ∙ fails.1))
-  file_fails (NoBody number bodies.NotRead) file bytes some there long fails = fails.1
-  file_fails (OtherLength number) file bytes some there long fails =
-      let other = fails.1 in
-      absurd (other.2 (ap length (one_file file.number other.0 bytes other.1 there) ∙ long))
-  file_fails NotAsRecorded file bytes some there long fails = absurd fails
+  file_fails fault file bytes some there long fails = search (rules, arith, one_file)
 
   joined_fails : (fault : ReplayFault) (parts : List BodyFile) (bytes : List ℕ) → fault ≢ NoMemory
       → Joins stands parts bytes → OfOne (FileFails stands refused fault) parts → failed
   joined_fails fault [] bytes some joins fails = absurd fails
   joined_fails fault (part ∷ parts) bytes some joins fails =
-      elim fails [
-        | inl here ↦ file_fails fault part joins.0 some joins.3 joins.4 here
-        | inr there ↦ joined_fails fault parts joins.1 some joins.5 there
-      ]
+      search (rules, arith, file_fails, joined_fails fault parts joins.1 some joins.5)
 
   body_fails : (fault : ReplayFault) (body : KeptBody) (bytes : List ℕ) → fault ≢ NoMemory
       → IsBodyOf stands body bytes → FilesFail stands refused (files_of body) fault → failed
@@ -167,10 +122,7 @@ module _ (files : ℕ → Option (List ℕ)) (failed : Type 0) where
       → Exchanged p x q → (fault : ReplayFault) → fault ≢ NoMemory → ExchangeFails stands refused p kept fault → failed
   exchange_fails p kept q x is does NoMemory some fails = absurd (some refl)
   exchange_fails p kept q x is does (NotAnEntry fault) some fails = absurd fails
-  exchange_fails p kept q x is does MomentFalls some fails =
-      let later = does.later in
-      let now = is.now in
-      absurd (omega (arith, fails, later, now))
+  exchange_fails p kept q x is does MomentFalls some fails = search (rules, arith)
   exchange_fails p kept q x is does (NoBody number fault) some fails =
       ask_fails (NoBody number fault) kept.ask x.ask some is.ask fails.1
   exchange_fails p kept q x is does (OtherLength number) some fails =
@@ -185,20 +137,14 @@ module _ (files : ℕ → Option (List ℕ)) (failed : Type 0) where
       → fault ≢ NoMemory → (kept : KeptExchange) → as_read (Kept' kept) ≡ as_read entry
       → ExchangeFails stands refused p kept fault
       → failed
-  read_fails p (Kept' mine) q does fault some kept same fails =
-      let is : kept ≡ mine = cc same in
-      exchange_fails p mine q does.0 does.1 does.2 fault some
-      (subst (λ k. ExchangeFails stands refused p k fault) is fails)
-  read_fails p (NumbersUpTo n) q does fault some kept same fails = absurd (cc same)
-  read_fails p (MomentsUpTo m) q does fault some kept same fails = absurd (cc same)
+  read_fails p entry q does fault some kept same fails = search (rules, arith, exchange_fails)
 
   entry_fails : (p : Point) (entry : Entry) (text : List ℕ) (q : Point) → entry_of text ≡ Ok entry
       → Applies stands p entry q → (fault : ReplayFault) → fault ≢ NoMemory
       → Stops stands refused p (entry_of text) fault → failed
   entry_fails p entry text q read does NoMemory some why = absurd (some refl)
   entry_fails p entry text q read does (NotAnEntry fault) some why = absurd (cc (sym why ∙ read))
-  entry_fails p entry text q read does MomentFalls some why =
-      read_fails p entry q does MomentFalls some why.0 (sym why.1 ∙ read) why.2
+  entry_fails p entry text q read does MomentFalls some why = search (rules, arith, read_fails)
   entry_fails p entry text q read does (NoBody number fault) some why =
       read_fails p entry q does (NoBody number fault) some why.0 (sym why.1 ∙ read) why.2
   entry_fails p entry text q read does (OtherLength number) some why =
@@ -222,24 +168,15 @@ module _ (files : ℕ → Option (List ℕ)) (failed : Type 0) where
       → (entries : List Entry) → All IsEntry (entry ∷ entries) → text ∷ texts ≡ map entry_text (entry ∷ entries)
       → Replays stands old.point (entry ∷ entries) end → failed ⊎ Goes new texts end
   goes_one old time text texts new end (inl counts) none unnamed entry entries are is run =
-      let text_is : text ≡ entry_text entry = cc is in
-      let mine = All-head IsEntry entry entries are in
-      let read = ap entry_of text_is ∙ entry_read entry mine in
-      let found = ap entry_of counts.text_is ∙ entry_read counts.entry counts.is_entry in
-      let both : as_read counts.entry ≡ as_read entry = sym found ∙ read in
-      let same : counts.entry ≡ entry = cc both in
-      let does : Applies stands old.point entry new.point = subst (λ e. Applies stands old.point e new.point) same
-      (subst (λ p. Applies stands p counts.entry new.point) (ready_first old (entry_of text) none) counts.applies) in
-      let point = one_point old.point entry run.0 new.point run.1 does in
-      inr
-      (record {
-        none = ap (λ (s : Stand). s.lost) counts.is ∙ none;
-        unnamed = ap (λ (s : Stand). s.named) counts.is ∙ unnamed;
-        entries = entries;
-        are = All-tail IsEntry entry entries are;
-        is = cc is;
-        replays = subst (λ p. Replays stands p entries end) point run.2;
-      })
+      grind (
+        arith,
+        All-head IsEntry entry entries are,
+        entry_read entry,
+        entry_read counts.entry counts.is_entry,
+        ready_first old,
+        one_point old.point entry run.0 new.point run.1,
+        All-tail IsEntry entry entries are,
+      )
   goes_one old time text texts new end (inr loses) none unnamed entry entries are is run =
       let text_is : text ≡ entry_text entry = cc is in
       let read = ap entry_of text_is ∙ entry_read entry (All-head IsEntry entry entries are) in
@@ -253,27 +190,20 @@ module _ (files : ℕ → Option (List ℕ)) (failed : Type 0) where
       → failed ⊎ Goes new texts end
   goes_next old time text texts new end does none unnamed [] are is run = absurd (cc is)
   goes_next old time text texts new end does none unnamed (entry ∷ entries) are is run =
-      goes_one old time text texts new end does none unnamed entry entries are is run
+      search (rules, arith, goes_one)
 
   goes_records : (time : ℕ) (old : Stand) (front back : List (List ℕ)) (new : Stand) (end : Point)
       → RunsRecords (Salvages stands refused) time old front new → Goes old (front ++ back) end
       → failed ⊎ Goes new back end
   goes_records time old [] back new end same goes = inr (subst (λ s. Goes s back end) (sym same) goes)
   goes_records time old (text ∷ front) back new end run goes =
-      elim (goes_next old time text (front ++ back) run.0 end run.1 goes.none goes.unnamed goes.entries goes.are goes.is
-      goes.replays) [
-        | inl fails ↦ inl fails
-        | inr on ↦ goes_records time run.0 front back new end run.2 on
-      ]
+      grind (arith, common_steps, goes_next, goes_records time run.0 front back new end run.2)
 
   goes_batches : (old : Stand) (all : List Kept) (new : Stand) (end : Point)
       → Runs (Salvages stands refused) old all new → Goes old (texts_of all) end → failed ⊎ Goes new [] end
   goes_batches old [] new end same goes = inr (subst (λ s. Goes s [] end) (sym same) goes)
   goes_batches old (kept ∷ rest) new end run goes =
-      elim (goes_records kept.0 old kept.1 (texts_of rest) run.0 end run.1 goes) [
-        | inl fails ↦ inl fails
-        | inr on ↦ goes_batches run.0 rest new end run.2 on
-      ]
+      search (rules, arith, goes_records, goes_batches run.0 rest new end run.2)
 
   at_end : (point end : Point) (entries : List Entry) → [] ≡ map entry_text entries → Replays stands point entries end
       → point ≡ end
@@ -281,11 +211,7 @@ module _ (files : ℕ → Option (List ℕ)) (failed : Type 0) where
   at_end point end (entry ∷ entries) is run = absurd (cc is)
 
   nothing_more : (it : Stand) → it.lost ≡ 0 → it.named ≡ 0 → finished it ≡ it.point
-  nothing_more it none unnamed =
-      let issued = it.point.state.issued in
-      let same : max issued (min (max (issued + it.lost) it.named) last_number) ≡ issued =
-      omega (arith, none, unnamed) in
-      ap (λ n. record it.point { state = record it.point.state { issued = n } }) same
+  nothing_more it none unnamed = search (rules, arith)
 
   -- ---- where nothing is lost, each record was run
 
@@ -299,20 +225,11 @@ module _ (files : ℕ → Option (List ℕ)) (failed : Type 0) where
     pub replays : Replays stands old.point entries new.point
 
   ran_none : (it : Stand) → it.lost ≡ 0 → Ran it [] it
-  ran_none it none =
-      record { none = none; same = refl; entries = []; are = All-nil IsEntry; is = refl; replays = refl }
+  ran_none it none = search (rules, arith, All-nil)
 
   ran_then : (old : Stand) (front : List (List ℕ)) (mid : Stand) (back : List (List ℕ)) (new : Stand)
       → Ran old front mid → Ran mid back new → Ran old (front ++ back) new
-  ran_then old front mid back new first second = record {
-    none = first.none;
-    same = first.same ∙ second.same;
-    entries = first.entries ++ second.entries;
-    are = All-append IsEntry first.entries second.entries first.are second.are;
-    is = (λ i. first.is i ++ second.is i) ∙ sym (map-append entry_text first.entries second.entries);
-    replays =
-        replays_then stands old.point first.entries second.entries mid.point new.point first.replays second.replays;
-  }
+  ran_then old front mid back new first second = grind (arith, common_steps, All-append, map-append, replays_then)
 
   ran_one : (old : Stand) (time : ℕ) (text : List ℕ) (new : Stand) → Salvages stands refused old time text new
       → new.lost ≡ 0 → Ran old (text ∷ []) new
@@ -330,25 +247,20 @@ module _ (files : ℕ → Option (List ℕ)) (failed : Type 0) where
           refl,
         );
       }
-  ran_one old time text new (inr loses) none =
-      let more : new.lost ≡ one_more old.lost = ap (λ (s : Stand). s.lost) loses.is in
-      absurd (omega (arith, more, none))
+  ran_one old time text new (inr loses) none = search (rules, arith)
 
   ran_records : (time : ℕ) (old : Stand) (texts : List (List ℕ)) (new : Stand)
       → RunsRecords (Salvages stands refused) time old texts new → new.lost ≡ 0 → Ran old texts new
-  ran_records time old [] new same none =
-      subst (λ (s : Stand). Ran old [] s) (sym same) (ran_none old (sym (ap (λ (s : Stand). s.lost) same) ∙ none))
+  ran_records time old [] new same none = search (rules, arith, ran_none)
   ran_records time old (text ∷ texts) new run none =
       let rest = ran_records time run.0 texts new run.2 none in
       ran_then old (text ∷ []) run.0 texts new (ran_one old time text run.0 run.1 rest.none) rest
 
   ran_batches : (old : Stand) (all : List Kept) (new : Stand) → Runs (Salvages stands refused) old all new
       → new.lost ≡ 0 → Ran old (texts_of all) new
-  ran_batches old [] new same none =
-      subst (λ (s : Stand). Ran old [] s) (sym same) (ran_none old (sym (ap (λ (s : Stand). s.lost) same) ∙ none))
+  ran_batches old [] new same none = search (rules, arith, ran_none)
   ran_batches old (kept ∷ rest) new run none =
-      let behind = ran_batches run.0 rest new run.2 none in
-      ran_then old kept.1 run.0 (texts_of rest) new (ran_records kept.0 old kept.1 run.0 run.1 behind.none) behind
+      search (rules, arith, ran_then, ran_records, ran_batches run.0 rest new run.2 none)
 
   pub none_lost : (old : Point) (all : List Kept) (end : Stand) → IsLawful old.state
       → Runs (Salvages stands refused) (stand_at old) all end → end.lost ≡ 0 → IsReplayOf all files old (finished end)

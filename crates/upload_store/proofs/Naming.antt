@@ -1,6 +1,7 @@
 -- The files that records name are there, or noted of a lost record.
+use Rattle.std.proofs.lemmas.Grind.{common_steps}
 use Rattle.std.proofs.Common.{◌≡◌, ◌∙◌, ◌⊎◌, inl, inr, ℕ, ◌<◌, ◌≤◌, List, [], ◌∷◌, ◌++◌, map, Option, Some, refl}
-use Rattle.std.proofs.Common.{sym, ap, subst, arith}
+use Rattle.std.proofs.Common.{sym, ap, subst, arith, rules}
 use Rattle.std.specs.Prelude.{max, IsSome}
 use Rattle.std.specs.List.{All, fold}
 use Rattle.std.proofs.lemmas.List.Elements.{All-append, All-cons, All-head, All-nil, All-tail, All-weaker}
@@ -20,7 +21,7 @@ use Rattle.upload_journal.specs.Replay.{Joins, IsBodyOf, IsAskOf, Point, Applies
 use Rattle.upload_journal.proofs.Texts.{entry_read}
 use Rattle.upload_store.specs.Found.{entry_numbers, ask_numbers, body_numbers, numbers_of, read_numbers, texts_of}
 use Rattle.upload_store.specs.Runs.{stands_in}
-use Rattle.upload_store.specs.Salvage.{Stand, Salvages, ready, one_more, past, stand_at}
+use Rattle.upload_store.specs.Salvage.{Stand, Salvages, ready, one_more, stand_at}
 
 -- ---- each body that was read has a file
 
@@ -55,7 +56,8 @@ module _ (Has : ℕ → Type 0) (held : ℕ → Option (List ℕ)) (has : (n : �
     replays_named old [] new are r = All-nil (λ text. All Has (numbers_of text))
     replays_named old (e ∷ es) new are r =
         All-cons (λ text. All Has (numbers_of text)) (entry_text e) (map entry_text es)
-        (subst (All Has) (sym (ap read_numbers (entry_read e (All-head IsEntry e es are)))) (applied_named old e r.0 r.1))
+        (subst (All Has) (sym (ap read_numbers (entry_read e (All-head IsEntry e es are))))
+        (applied_named old e r.0 r.1))
         (replays_named r.0 es new (All-tail IsEntry e es are) r.2)
 
 -- ---- the first number above some
@@ -64,11 +66,7 @@ past_from : (numbers : List ℕ) (high : ℕ)
     → (high ≤ fold (λ h n. max h (one_more n)) high numbers)
     × All (λ n. one_more n ≤ fold (λ h n. max h (one_more n)) high numbers) numbers
 past_from [] high = (omega arith, All-nil (λ n. one_more n ≤ high))
-past_from (n ∷ numbers) high =
-    let end = fold (λ h n. max h (one_more n)) (max high (one_more n)) numbers in
-    let rest = past_from numbers (max high (one_more n)) in
-    let grows : max high (one_more n) ≤ end = rest.0 in
-    (omega (arith, grows), All-cons (λ n. one_more n ≤ end) n numbers (omega (arith, grows)) rest.1)
+past_from (n ∷ numbers) high = search (rules, arith, All-cons, past_from numbers)
 
 -- ---- one record after the other
 
@@ -86,22 +84,11 @@ module _ (files : ℕ → Option (List ℕ)) (refused : ℕ → BodyFault → Ty
 
   known_still : (a b : ℕ) → a ≤ b → (text : List ℕ) → All (IsKnown a) (numbers_of text)
       → All (IsKnown b) (numbers_of text)
-  known_still a b le text =
-      All-weaker (IsKnown a) (IsKnown b)
-      (λ n known. elim known [ inl there ↦ inl there | inr noted ↦ inr (omega (arith, noted, le)) ]) (numbers_of text)
+  known_still a b le text = search (rules, arith, All-weaker)
 
   notes_then : (old : Stand) (front : List (List ℕ)) (mid : Stand) (back : List (List ℕ)) (new : Stand)
       → Notes old front mid → Notes mid back new → Notes old (front ++ back) new
-  notes_then old front mid back new first second =
-      let P : ℕ → List ℕ → Type 0 = λ noted text. All (IsKnown noted) (numbers_of text) in
-      let grows = first.grows in
-      let more = second.grows in
-      record {
-        grows = omega (arith, grows, more);
-        known =
-            All-append (P new.past) front back
-            (All-weaker (P mid.past) (P new.past) (known_still mid.past new.past more) front first.known) second.known;
-      }
+  notes_then old front mid back new first second = grind (arith, common_steps, All-append, All-weaker, known_still)
 
   notes_one : (old : Stand) (time : ℕ) (text : List ℕ) (new : Stand)
       → Salvages (stands_in files) refused old time text new → Notes old (text ∷ []) new
@@ -117,18 +104,7 @@ module _ (files : ℕ → Option (List ℕ)) (refused : ℕ → BodyFault → Ty
         grows = omega (arith, noted);
         known = All-cons P text [] (subst (All Has) (sym (ap read_numbers read)) named) (All-nil P);
       }
-  notes_one old time text new (inr loses) =
-      let P : List ℕ → Type 0 = λ t. All (IsKnown new.past) (numbers_of t) in
-      let noted : new.past ≡ max old.past (past (numbers_of text)) = ap (λ (s : Stand). s.past) loses.is in
-      let above = (past_from (numbers_of text) 0).1 in
-      record {
-        grows = omega (arith, noted);
-        known =
-            All-cons P text []
-            (All-weaker (λ n. one_more n ≤ past (numbers_of text)) (IsKnown new.past)
-            (λ n low. inr (omega (arith, low, noted))) (numbers_of text) above)
-            (All-nil P);
-      }
+  notes_one old time text new (inr loses) = search (rules, arith, past_from, All-cons, All-weaker, All-nil)
 
   notes_records : (time : ℕ) (old : Stand) (texts : List (List ℕ)) (new : Stand)
       → RunsRecords (Salvages (stands_in files) refused) time old texts new → Notes old texts new
@@ -148,14 +124,4 @@ module _ (files : ℕ → Option (List ℕ)) (refused : ℕ → BodyFault → Ty
   pub none_named : (old : Point) (all : List Kept) (end : Stand) (next : ℕ)
       → Runs (Salvages (stands_in files) refused) (stand_at old) all end → ((n : ℕ) → IsSome (files n) → n < next)
       → end.past ≤ next → All (λ text. All (λ n. one_more n ≤ next) (numbers_of text)) (texts_of all)
-  none_named old all end next run above noted =
-      All-weaker (λ text. All (IsKnown end.past) (numbers_of text))
-      (λ text. All (λ n. one_more n ≤ next) (numbers_of text))
-      (λ text.
-      All-weaker (IsKnown end.past) (λ n. one_more n ≤ next)
-      (λ n known. elim known [
-        | inl there ↦ let low = above n there in omega (arith, low)
-        | inr low ↦ omega (arith, low, noted)
-      ])
-      (numbers_of text))
-      (texts_of all) (notes_batches (stand_at old) all end run).known
+  none_named old all end next run above noted = search (rules, arith, All-weaker, notes_batches)

@@ -1,11 +1,11 @@
 -- The numbers that records name are issued, or noted of a lost record.
-use Rattle.std.proofs.Common.{◌≡◌, ◌∙◌, ◌⊎◌, inl, inr, ℕ, ◌+◌, ◌≤◌, List, [], ◌∷◌, ◌++◌, length, Option, Some}
+use Rattle.std.proofs.lemmas.Grind.{common_steps}
+use Rattle.std.proofs.Common.{◌≡◌, ◌∙◌, ◌⊎◌, inl, inr, ℕ, ◌+◌, ◌≤◌, List, [], ◌∷◌, ◌++◌, Option, Some, rules}
 use Rattle.std.proofs.Common.{None, refl}
 use Rattle.std.proofs.Common.{sym, ap, subst, arith, Bool, true, false, cond, Result}
-use Rattle.std.specs.Prelude.{min, max, ◌==◌, ◌||◌, nat_le}
+use Rattle.std.specs.Prelude.{min, max, ◌||◌, nat_le}
 use Rattle.std.specs.Option.{option_map}
 use Rattle.std.specs.List.{All}
-use Rattle.std.specs.FinMap as map
 use Rattle.std.proofs.lemmas.Bool.{leb-false}
 use Rattle.std.proofs.lemmas.List.Elements.{All-append, All-cons, All-nil, All-weaker}
 use Rattle.journal.specs.Format.{Kept}
@@ -20,14 +20,13 @@ use Rattle.upload_service.specs.declared.answer.Answer.TheVariants as answers
 use Rattle.upload_service.specs.declared.answer.Refusal.TheVariants as refusals
 use Rattle.upload_service.specs.Machine.{State, Session, Outcome, Replies, Begins, Turn, IsLawful, answer_of}
 use Rattle.upload_service.specs.Machine.{outcome, effect}
-use Rattle.upload_service.specs.Machine.{SessionChange, AllStay, OneBegins, OneTakes, OneLeaves, issued_with}
-use Rattle.upload_service.specs.Machine.{at_session, unless_idle, holds, last_number}
+use Rattle.upload_service.specs.Machine.{SessionChange, issued_with}
+use Rattle.upload_service.specs.Machine.{at_session, unless_idle, last_number}
 use Rattle.upload_service.specs.UploadView.{Act}
 use Rattle.upload_service.proofs.Lawful.{lawful_turn}
 use Rattle.upload_journal.specs.declared.entries.KeptAnswer.{KeptAnswer}
 use Rattle.upload_journal.specs.declared.entries.KeptAnswer.TheVariants.{Begun, Taken, Stored}
 use Rattle.upload_journal.specs.declared.entries.KeptAsk.{KeptAsk}
-use Rattle.upload_journal.specs.declared.entries.KeptAsk.TheVariants.{Opening, Single, Mount, Chunk, Close}
 use Rattle.upload_journal.specs.declared.entries.Entry.{Entry}
 use Rattle.upload_journal.specs.declared.entries.Entry.TheVariants.{Exchange as Kept', NumbersUpTo, MomentsUpTo}
 use Rattle.upload_journal.specs.declared.fault.EntryFault.{EntryFault}
@@ -40,7 +39,7 @@ use Rattle.upload_journal.proofs.Replays.{lawful_used}
 use Rattle.upload_journal.proofs.Texts.{entry_read}
 use Rattle.upload_journal.proofs.Foresight.{foreseen}
 use Rattle.upload_store.specs.Found.{texts_of}
-use Rattle.upload_store.specs.Salvage.{Stand, Salvages, ready, raised, of_read, before, highest}
+use Rattle.upload_store.specs.Salvage.{Stand, Salvages, ready, raised, of_read, highest}
 use Rattle.upload_store.specs.Salvage.{number_asked}
 use Rattle.upload_store.specs.Salvage.{number_told, stand_at, finished}
 use Rattle.upload_store.proofs.Rescues.{by_test}
@@ -48,10 +47,7 @@ use Rattle.upload_store.proofs.Rescues.{by_test}
 -- ---- one turn
 
 issued_more : (n : ℕ) (change : SessionChange) → n ≤ issued_with n change
-issued_more n AllStay = omega arith
-issued_more n (OneBegins name at) = omega arith
-issued_more n (OneTakes name at received) = omega arith
-issued_more n (OneLeaves at) = omega arith
+issued_more n change = search (rules, arith)
 
 -- the session that a request goes to is there if something changes
 session_there : (max_blob max_idle now : ℕ) (found : Option Session) (name at : List ℕ) (act : Act) (told : KeptAnswer)
@@ -68,11 +64,7 @@ asked_number other = 0
 
 asked_is : (stands : ℕ → List ℕ → Type 0) (kept : KeptAsk) (ask : Ask) → IsAskOf stands kept ask
     → number_asked kept ≡ asked_number ask
-asked_is stands (Opening name) ask is = sym (ap asked_number is)
-asked_is stands (Single name digest body) ask is = sym (ap asked_number is.2)
-asked_is stands (Mount name digest source) ask is = sym (ap asked_number is)
-asked_is stands (Chunk name at range body) ask is = sym (ap asked_number is.2)
-asked_is stands (Close name at range digest body) ask is = sym (ap asked_number is.2)
+asked_is stands kept ask is = search (rules, arith)
 
 module _ (s : State) (lawful : IsLawful s) (secret : List ℕ) (now : ℕ) (told : KeptAnswer) where
   asked_low : (ask : Ask) → told_of (answer_of (outcome s ask secret now)) ≡ Some told → asked_number ask ≤ s.issued
@@ -81,13 +73,9 @@ module _ (s : State) (lawful : IsLawful s) (secret : List ℕ) (now : ℕ) (told
   asked_low (asks.Opening name) is = omega arith
   asked_low (asks.Single name digest body) is = omega arith
   asked_low (asks.Mount name digest source) is = omega arith
-  asked_low (asks.Chunk name at range body) is =
-      let there = session_there _ _ now (map.get s.sessions at) name at _ told is in
-      (lawful.numbered at there.0 there.1).1
+  asked_low (asks.Chunk name at range body) is = search (rules, arith, session_there)
   asked_low (asks.Status name at) is = omega arith
-  asked_low (asks.Close name at range digest body) is =
-      let there = session_there _ _ now (map.get s.sessions at) name at _ told is in
-      (lawful.numbered at there.0 there.1).1
+  asked_low (asks.Close name at range digest body) is = search (rules, arith, session_there)
   asked_low (asks.Refused refusal) is = omega arith
 
 -- an outcome that is told as a session that was begun has issued its number
@@ -98,13 +86,7 @@ issues_opening : (b : Bool) (issued : ℕ) (name secret at : List ℕ)
     → Issues issued at (cond (b || nat_le last_number issued) (Replies (answers.Refused refusals.TooMany))
     (Begins name (reference (issued + 1) secret)))
 issues_opening true issued name secret at = λ is. absurd (cc is)
-issues_opening false issued name secret at =
-    by_test (Issues issued at) (nat_le last_number issued) _ _ (λ full is. absurd (cc is))
-    (λ some is.
-    let low = leb-false last_number issued some in
-    let same : reference (issued + 1) secret ≡ at = cc is in
-    let number = number_of-reference (issued + 1) secret (omega (arith, low)) in
-    omega (arith, number, ap number_of same))
+issues_opening false issued name secret at = search (rules, arith, by_test, leb-false, number_of-reference)
 
 not_taken : (f : Session → ℕ) (found : Option Session) (at : List ℕ)
     → option_map (λ session. Taken (f session)) found ≡ Some (Begun at) → ⊥
@@ -119,34 +101,15 @@ module _ (s : State) (secret : List ℕ) (now : ℕ) (at : List ℕ) where
   -- a request whose change is told otherwise begins none
   issues_none : (ask : Ask) → (change_of s ask secret ≡ Some (Begun at) → ⊥)
       → Issues s.issued at (outcome s ask secret now)
-  issues_none ask never is =
-      elim (foreseen s ask secret now).tells [
-        | inl none ↦ absurd (cc (sym is ∙ none))
-        | inr as_foreseen ↦ absurd (never (sym as_foreseen ∙ is))
-      ]
+  issues_none ask never is = search (rules, arith, foreseen)
 
   issues : (ask : Ask) → Issues s.issued at (outcome s ask secret now)
-  issues asks.Base = issues_none asks.Base (λ is. cc is)
-  issues (asks.Has name digest head) = issues_none (asks.Has name digest head) (λ is. cc is)
-  issues (asks.Opening name) = issues_opening _ s.issued name secret at
-  issues (asks.Single name digest body) = issues_none (asks.Single name digest body) (not_stored digest at)
-  issues (asks.Mount name digest source) =
-      by_test (Issues s.issued at) (holds s source digest) _ _ (λ has is. absurd (cc is))
-      (λ none. issues_opening _ s.issued name secret at)
-  issues (asks.Chunk name to range body) =
-      issues_none (asks.Chunk name to range body)
-      (not_taken (λ session. length session.received + length body) (map.get s.sessions to) at)
-  issues (asks.Status name to) = issues_none (asks.Status name to) (λ is. cc is)
-  issues (asks.Close name to range digest body) =
-      issues_none (asks.Close name to range digest body) (not_stored digest at)
-  issues (asks.Refused refusal) = issues_none (asks.Refused refusal) (λ is. cc is)
+  issues ask = search (rules, arith, issues_none, issues_opening, not_stored, by_test, not_taken)
 
 told_low : (s : State) (ask : Ask) (secret : List ℕ) (now : ℕ) (told : KeptAnswer)
     → told_of (answer_of (outcome s ask secret now)) ≡ Some told
     → number_told told ≤ issued_with s.issued (effect (outcome s ask secret now)).sessions
-told_low s ask secret now (Begun at) is = issues s secret now at ask is
-told_low s ask secret now (Taken next) is = omega arith
-told_low s ask secret now (Stored digest) is = omega arith
+told_low s ask secret now told is = search (rules, arith, issues)
 
 -- ---- one entry
 
@@ -171,20 +134,7 @@ turn_names s ask secret now answer t told lawful (inr lacked) is = absurd (cc (s
 
 entry_names : (stands : ℕ → List ℕ → Type 0) (p : Point) (entry : Entry) (q : Point) → IsLawful p.state
     → Applies stands p entry q → Names p q (highest entry)
-entry_names stands p (Kept' kept) q lawful does =
-    let x = does.0 in
-    let is = does.1 in
-    let turn = does.2.turn in
-    let names = turn_names p.state x.ask x.secret x.now x.answer q.state kept.answer lawful turn is.answer in
-    let asked = asked_is stands kept.ask x.ask is.ask in
-    let grows = names.0 in
-    let low = names.1 in
-    let told = names.2 in
-    record {
-      lawful = lawful_turn p.state x.ask x.secret x.now x.answer q.state lawful turn;
-      grows = grows;
-      below = omega (arith, low, told, asked);
-    }
+entry_names stands p (Kept' kept) q lawful does = search (rules, arith, turn_names, asked_is, lawful_turn)
 entry_names stands p (NumbersUpTo n) q lawful does =
     let issued : q.state.issued ≡ max p.state.issued n = ap (λ (r : Point). r.state.issued) does in
     record {
@@ -192,25 +142,13 @@ entry_names stands p (NumbersUpTo n) q lawful does =
       grows = omega (arith, issued);
       below = omega (arith, issued);
     }
-entry_names stands p (MomentsUpTo m) q lawful does =
-    let issued : q.state.issued ≡ p.state.issued = ap (λ (r : Point). r.state.issued) does in
-    record {
-      lawful = subst (λ (r : Point). IsLawful r.state) (sym does) lawful;
-      grows = omega (arith, issued);
-      below = omega arith;
-    }
+entry_names stands p (MomentsUpTo m) q lawful does = search (rules, arith)
 
 raised_names : (n : ℕ) (p : Point) → IsLawful p.state → Names p (raised n p) 0
-raised_names n p lawful =
-    record { lawful = lawful_used (min n last_number) p.state lawful; grows = omega arith; below = omega arith }
+raised_names n p lawful = search (rules, arith, lawful_used)
 
 ready_names : (it : Stand) (read : Result Entry EntryFault) → IsLawful it.point.state → Names it.point (ready it read) 0
-ready_names it read lawful =
-    let same : Names it.point it.point 0 = record { lawful = lawful; grows = omega arith; below = omega arith } in
-    by_test (λ p. Names it.point p 0) (it.lost == 0) _ _ (λ _. same)
-    (λ _.
-    by_test (λ p. Names it.point p 0) (nat_le (of_read before read) (it.point.state.issued + it.lost)) _ _
-    (λ _. raised_names (of_read before read) it.point lawful) (λ _. same))
+ready_names it read lawful = grind (arith, by_test, raised_names)
 
 -- ---- one record after the other
 
@@ -225,35 +163,15 @@ record Passes (old : Stand) (texts : List (List ℕ)) (new : Stand) : Type 0 whe
   pub low : All (λ text. IsLow new (of_read highest (entry_of text))) texts
 
 passes_none : (it : Stand) → IsLawful it.point.state → Passes it [] it
-passes_none it lawful =
-    let P : List ℕ → Type 0 = λ text. IsLow it (of_read highest (entry_of text)) in
-    record { lawful = lawful; grows = omega arith; named = omega arith; low = All-nil P }
+passes_none it lawful = search (rules, arith, All-nil)
 
 still_low : (old : Stand) (texts : List (List ℕ)) (new : Stand) → Passes old texts new → (n : ℕ) → IsLow old n
     → IsLow new n
-still_low old texts new passes n low =
-    let grows = passes.grows in
-    let named = passes.named in
-    elim low [ inl issued ↦ inl (omega (arith, issued, grows)) | inr noted ↦ inr (omega (arith, noted, named)) ]
+still_low old texts new passes n low = search (rules, arith)
 
 passes_then : (old : Stand) (front : List (List ℕ)) (mid : Stand) (back : List (List ℕ)) (new : Stand)
     → Passes old front mid → Passes mid back new → Passes old (front ++ back) new
-passes_then old front mid back new first second =
-    let P : Stand → List ℕ → Type 0 = λ it text. IsLow it (of_read highest (entry_of text)) in
-    let grows = first.grows in
-    let more = second.grows in
-    let named = first.named in
-    let noted = second.named in
-    record {
-      lawful = second.lawful;
-      grows = omega (arith, grows, more);
-      named = omega (arith, named, noted);
-      low =
-          All-append (P new) front back
-          (All-weaker (P mid) (P new) (λ text. still_low mid back new second (of_read highest (entry_of text))) front
-          first.low)
-          second.low;
-    }
+passes_then old front mid back new first second = search (rules, arith, All-append, All-weaker, still_low)
 
 module _ (stands : ℕ → List ℕ → Type 0) (refused : ℕ → BodyFault → Type 0) where
   passes_one : (old : Stand) (time : ℕ) (text : List ℕ) (new : Stand) → IsLawful old.point.state
@@ -289,27 +207,18 @@ module _ (stands : ℕ → List ℕ → Type 0) (refused : ℕ → BodyFault →
 
   passes_records : (time : ℕ) (old : Stand) (texts : List (List ℕ)) (new : Stand) → IsLawful old.point.state
       → RunsRecords (Salvages stands refused) time old texts new → Passes old texts new
-  passes_records time old [] new lawful same =
-      subst (λ (s : Stand). Passes old [] s) (sym same) (passes_none old lawful)
+  passes_records time old [] new lawful same = search (rules, arith, passes_none)
   passes_records time old (text ∷ texts) new lawful run =
       let first = passes_one old time text run.0 lawful run.1 in
       passes_then old (text ∷ []) run.0 texts new first (passes_records time run.0 texts new first.lawful run.2)
 
   passes_batches : (old : Stand) (all : List Kept) (new : Stand) → IsLawful old.point.state
       → Runs (Salvages stands refused) old all new → Passes old (texts_of all) new
-  passes_batches old [] new lawful same =
-      subst (λ (s : Stand). Passes old [] s) (sym same) (passes_none old lawful)
+  passes_batches old [] new lawful same = search (rules, arith, passes_none)
   passes_batches old (kept ∷ rest) new lawful run =
-      let first = passes_records kept.0 old kept.1 run.0 lawful run.1 in
-      passes_then old kept.1 run.0 (texts_of rest) new first (passes_batches run.0 rest new first.lawful run.2)
+      grind (arith, common_steps, passes_records, passes_then, passes_batches run.0 rest new)
 
   pub all_issued : (old : Point) (all : List Kept) (end : Stand) → IsLawful old.state
       → Runs (Salvages stands refused) (stand_at old) all end
       → All (λ text. min (of_read highest (entry_of text)) last_number ≤ (finished end).state.issued) (texts_of all)
-  all_issued old all end lawful run =
-      let passes = passes_batches (stand_at old) all end lawful run in
-      All-weaker (λ text. IsLow end (of_read highest (entry_of text)))
-      (λ text. min (of_read highest (entry_of text)) last_number ≤ (finished end).state.issued)
-      (λ text low.
-      elim low [ inl issued ↦ omega (arith, issued) | inr noted ↦ omega (arith, noted) ])
-      (texts_of all) passes.low
+  all_issued old all end lawful run = search (rules, arith, passes_batches, All-weaker)

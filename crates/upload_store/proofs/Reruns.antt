@@ -1,5 +1,5 @@
 -- Records that are run one after another are a replay.
-use Rattle.std.proofs.Common.{◌≡◌, ◌∙◌, ℕ, List, [], ◌∷◌, ◌++◌, map, Option, refl, sym, ap, subst}
+use Rattle.std.proofs.Common.{◌≡◌, ◌∙◌, ℕ, List, [], ◌∷◌, ◌++◌, map, Option, refl, sym, ap, subst, arith, rules}
 use Rattle.std.specs.List.{All}
 use Rattle.std.proofs.lemmas.List.{map-append}
 use Rattle.std.proofs.lemmas.List.Elements.{All-append, All-cons, All-nil}
@@ -10,7 +10,6 @@ use Rattle.upload_service.specs.declared.ask.Ask.{Ask}
 use Rattle.upload_journal.specs.declared.body.KeptBody.{KeptBody}
 use Rattle.upload_journal.specs.declared.body.KeptBody.TheVariants.{Here, InFiles}
 use Rattle.upload_journal.specs.declared.entries.KeptAsk.{KeptAsk}
-use Rattle.upload_journal.specs.declared.entries.KeptAsk.TheVariants.{Opening, Single, Mount, Chunk, Close}
 use Rattle.upload_journal.specs.declared.entries.Entry.{Entry}
 use Rattle.upload_journal.specs.declared.entries.Entry.TheVariants.{Exchange as Kept', NumbersUpTo, MomentsUpTo}
 use Rattle.upload_journal.specs.Entries.{IsEntry, entry_text}
@@ -30,38 +29,23 @@ module _ (old new : ℕ → List ℕ → Type 0) (keeps : Keeps old new) where
   body_still (InFiles files) bytes joins = joins_still old new files bytes keeps joins
 
   pub ask_still : (kept : KeptAsk) (ask : Ask) → IsAskOf old kept ask → IsAskOf new kept ask
-  ask_still (Opening name) ask is = is
-  ask_still (Single name digest body) ask is = (is.0, body_still body is.0 is.1, is.2)
-  ask_still (Mount name digest source) ask is = is
-  ask_still (Chunk name at range body) ask is = (is.0, body_still body is.0 is.1, is.2)
-  ask_still (Close name at range digest body) ask is = (is.0, body_still body is.0 is.1, is.2)
+  ask_still kept ask is = search (rules, arith, body_still)
 
   pub applies_still : (before : Point) (entry : Entry) (after : Point) → Applies old before entry after
       → Applies new before entry after
-  applies_still before (Kept' entry) after does = (
-    does.0,
-    record {
-      ask = ask_still entry.ask does.0.ask does.1.ask;
-      secret = does.1.secret;
-      now = does.1.now;
-      answer = does.1.answer;
-    },
-    does.2,
-  )
-  applies_still before (NumbersUpTo n) after does = does
-  applies_still before (MomentsUpTo m) after does = does
+  applies_still before entry after does = search (rules, arith, ask_still)
 
   replays_still : (before : Point) (entries : List Entry) (after : Point) → Replays old before entries after
       → Replays new before entries after
   replays_still before [] after is = is
   replays_still before (entry ∷ entries) after run =
-      (run.0, applies_still before entry run.0 run.1, replays_still run.0 entries after run.2)
+      search (rules, arith, applies_still, replays_still run.0 entries after run.2)
 
 pub replays_then : (stands : ℕ → List ℕ → Type 0) (old : Point) (front back : List Entry) (mid new : Point)
     → Replays stands old front mid → Replays stands mid back new → Replays stands old (front ++ back) new
 replays_then stands old [] back mid new same second = subst (λ p. Replays stands p back new) same second
 replays_then stands old (entry ∷ front) back mid new first second =
-    (first.0, first.1, replays_then stands first.0 front back mid new first.2 second)
+    search (rules, arith, replays_then stands first.0 front back mid new first.2 second)
 
 -- ---- the parts of a replay
 
@@ -83,8 +67,7 @@ module _ (stands : ℕ → List ℕ → Type 0) where
       → AreParts old (entry ∷ first) parts new
   unfolding AreParts
   before_first old entry mid first [] new none does run = (none run.0, (mid, does, run.1))
-  before_first old entry mid first (part ∷ parts) new none does run =
-      (run.0, (none run.1.0, (mid, does, run.1.1)), run.2)
+  before_first old entry mid first (part ∷ parts) new none does run = search (rules, arith)
 
   split : (old : Point) (entries : List Entry) (new : Point) → Replays stands old entries new → Split old entries new
   unfolding AreParts
@@ -134,20 +117,7 @@ module _ (stands : ℕ → List ℕ → Type 0) where
 pub is_replay : (all : List Kept) (files : ℕ → Option (List ℕ)) (old new : Point) (entries : List Entry)
     → All IsEntry entries → texts_of all ≡ map entry_text entries → IsLawful old.state
     → Replays (stands_in files) old entries new → IsReplayOf all files old new
-is_replay all files old new entries are is lawful replays =
-    let parts = split (stands_in files) old entries new replays in
-    let runs = runs_of (stands_in files) old parts.first parts.parts new lawful parts.are in
-    record {
-      entries = entries;
-      are_entries = are;
-      texts = is;
-      replays = replays;
-      first = parts.first;
-      parts = parts.parts;
-      in_parts = parts.is;
-      runs = runs.runs;
-      lawful = runs.lawful;
-    }
+is_replay all files old new entries are is lawful replays = search (rules, arith, split, runs_of)
 
 -- ---- records, one after another
 
@@ -161,13 +131,7 @@ module _ {S : Type 0} (held : S → ℕ → Option (List ℕ)) (may_leave : S �
     pub reads : ReadsOnly held may_leave IsClean old new
 
   ran_none : (shelf : S) (point : Point) → Ran shelf point [] shelf point
-  ran_none shelf point = record {
-    entries = [];
-    are = All-nil IsEntry;
-    is = refl;
-    replays = λ _. refl;
-    reads = reads_none held may_leave IsClean shelf;
-  }
+  ran_none shelf point = search (rules, arith, All-nil, reads_none)
 
   ran_one : (old : S) (before : Point) (text : List ℕ) (new : S) (after : Point)
       → Steps held may_leave IsClean old before text new after → Ran old before (text ∷ []) new after
@@ -207,8 +171,7 @@ module _ {S : Type 0} (held : S → ℕ → Option (List ℕ)) (may_leave : S �
 
     records_ran : (time : ℕ) (old : M) (texts : List (List ℕ)) (new : M) → RunsRecords steps_by time old texts new
         → Ran (shelf old) (point old) texts (shelf new) (point new)
-    records_ran time old [] new same =
-        subst (λ m. Ran (shelf old) (point old) [] (shelf m) (point m)) (sym same) (ran_none (shelf old) (point old))
+    records_ran time old [] new same = search (rules, arith, ran_none)
     records_ran time old (text ∷ texts) new run =
         ran_then (shelf old) (point old) (text ∷ []) (shelf run.0) (point run.0) texts (shelf new) (point new)
         (ran_one (shelf old) (point old) text (shelf run.0) (point run.0) run.1)
@@ -216,13 +179,10 @@ module _ {S : Type 0} (held : S → ℕ → Option (List ℕ)) (may_leave : S �
 
     pub batches_ran : (old : M) (all : List Kept) (new : M) → Runs steps_by old all new
         → Ran (shelf old) (point old) (texts_of all) (shelf new) (point new)
-    batches_ran old [] new same =
-        subst (λ m. Ran (shelf old) (point old) [] (shelf m) (point m)) (sym same) (ran_none (shelf old) (point old))
+    batches_ran old [] new same = search (rules, arith, ran_none)
     batches_ran old (kept ∷ rest) new run =
-        ran_then (shelf old) (point old) kept.1 (shelf run.0) (point run.0) (texts_of rest) (shelf new) (point new)
-        (records_ran kept.0 old kept.1 run.0 run.1) (batches_ran run.0 rest new run.2)
+        search (rules, arith, ran_then, records_ran, batches_ran run.0 rest new run.2)
 
   pub replay_of : (old : S) (before : Point) (all : List Kept) (new : S) (after : Point) → IsLawful before.state
       → IsClean new → Ran old before (texts_of all) new after → IsReplayOf all (held new) before after
-  replay_of old before all new after lawful clean ran =
-      is_replay all (held new) before after ran.entries ran.are ran.is lawful (ran.replays clean)
+  replay_of old before all new after lawful clean ran = search (rules, arith, is_replay)

@@ -1,5 +1,6 @@
 -- One round more.
-use Rattle.std.proofs.Common.{◌≡◌, ◌∙◌, ◌+◌, ◌<◌, ℕ, List, [], ◌∷◌, ◌++◌, take, length, get_or, sym, ap}
+use Rattle.std.proofs.lemmas.Grind.{common_steps}
+use Rattle.std.proofs.Common.{◌≡◌, ◌∙◌, ◌+◌, ◌<◌, ℕ, List, [], ◌∷◌, ◌++◌, take, length, get_or, sym, ap, arith, rules}
 use Rattle.std.proofs.Common.{Result, Ok, Err, OnOk, is_err, false}
 use Rattle.std.proofs.lemmas.List.{append-nil, take_more, map-append}
 use Rattle.std.proofs.lemmas.List.Concat.{flat_map-append}
@@ -12,7 +13,6 @@ use Rattle.bodies.specs.declared.fault.BodyFault.{BodyFault}
 use Rattle.journal.specs.Errors.{WhyNot}
 use Rattle.journal.proofs.Causes.{why_not, never}
 use Rattle.upload_store.specs.declared.fault.StoreFault.{StoreFault}
-use Rattle.upload_store.specs.declared.fault.StoreFault.TheVariants.{Journal, Body, Record, NumbersUsedUp}
 use Rattle.upload_store.specs.Faults.{ComesBy, NoRecord}
 use Rattle.upload_store.specs.Rounds.{rounds_kept, bodies_of, round_size}
 
@@ -30,28 +30,20 @@ if_err_told (Err error) P is told = (error, told)
 pub round_fails : (closed long disk same : Type 0) (body : BodyFault → Type 0) (used_up goal : Type 0) → (closed → goal)
     → (long → goal) → (disk → goal) → (used_up → goal) → ((fault : BodyFault) → body fault → goal)
     → (fault : StoreFault) → ComesBy (WhyNot closed long disk same) body NoRecord used_up fault → goal
-round_fails closed long disk same body used_up goal a b c d e (Journal error) why =
-    why_not closed long disk same goal a b c error why
-round_fails closed long disk same body used_up goal a b c d e (Body fault) why = e fault why
-round_fails closed long disk same body used_up goal a b c d e (Record it) why = never goal why
-round_fails closed long disk same body used_up goal a b c d e NumbersUsedUp why = d why
+round_fails closed long disk same body used_up goal a b c d e fault why = search (rules, arith, why_not, never)
 
 pub one_more : {X : Type 0} (xs : List X) (i : ℕ) (x : X) → i < length xs → x ≡ get_or xs i x
     → take (i + 1) xs ≡ take i xs ++ x ∷ []
 one_more xs i x here is = take_more xs i x here ∙ ap (λ y. take i xs ++ y ∷ []) (sym is)
 
-module _ (rounds : List Round) (i : ℕ) (round : Round) (here : i < length rounds) (is : round ≡ get_or rounds i round) where
-  pub kept_more : (time : ℕ) → rounds_kept time (take (i + 1) rounds)
-      ≡ rounds_kept time (take i rounds) ++ kept_at time round.batch ∷ []
-  kept_more time =
-      ap (rounds_kept time) (one_more rounds i round here is)
-      ∙ map-append (λ (r : Round). kept_at time r.batch) (take i rounds) (round ∷ [])
+module _ (rounds : List Round) (i : ℕ) (round : Round) (here : i < length rounds) (is : round ≡ get_or rounds i round)
+  where
+    pub kept_more : (time : ℕ) → rounds_kept time (take (i + 1) rounds)
+        ≡ rounds_kept time (take i rounds) ++ kept_at time round.batch ∷ []
+    kept_more time = grind (arith, common_steps, one_more, map-append)
 
-  pub bodies_more : bodies_of (take (i + 1) rounds) ≡ bodies_of (take i rounds) ++ round.bodies.items
-  bodies_more =
-      ap bodies_of (one_more rounds i round here is)
-      ∙ flat_map-append (λ (r : Round). r.bodies.items) (take i rounds) (round ∷ [])
-      ∙ ap (λ (l : List (List ℕ)). bodies_of (take i rounds) ++ l) (append-nil round.bodies.items)
+    pub bodies_more : bodies_of (take (i + 1) rounds) ≡ bodies_of (take i rounds) ++ round.bodies.items
+    bodies_more = grind (arith, common_steps, one_more, flat_map-append, append-nil)
 
-  pub size_more : sum_by round_size (take (i + 1) rounds) ≡ sum_by round_size (take i rounds) + round_size round
-  size_more = ap (sum_by round_size) (one_more rounds i round here is) ∙ sum_by_push round_size (take i rounds) round
+    pub size_more : sum_by round_size (take (i + 1) rounds) ≡ sum_by round_size (take i rounds) + round_size round
+    size_more = ap (sum_by round_size) (one_more rounds i round here is) ∙ sum_by_push round_size (take i rounds) round

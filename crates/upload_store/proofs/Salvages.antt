@@ -1,8 +1,8 @@
 -- A recovery that goes on behind losses is one of the records that count.
-use Rattle.std.proofs.Common.{◌≡◌, ◌∙◌, inl, inr, ℕ, ◌+◌, ◌≤◌, List, [], ◌∷◌, ◌++◌, map, Option}
+use Rattle.std.proofs.Common.{◌≡◌, ◌∙◌, inl, inr, ℕ, ◌+◌, ◌≤◌, List, [], ◌∷◌, ◌++◌, map, Option, rules}
 use Rattle.std.proofs.Common.{refl, sym}
 use Rattle.std.proofs.Common.{ap, subst, arith, Result, append_assoc}
-use Rattle.std.specs.Prelude.{min, max, ◌==◌, nat_le}
+use Rattle.std.specs.Prelude.{min, max}
 use Rattle.std.specs.List.{All}
 use Rattle.std.proofs.lemmas.List.{append-nil, map-append}
 use Rattle.std.proofs.lemmas.List.Elements.{All-append, All-cons, All-nil}
@@ -11,22 +11,19 @@ use Rattle.journal.specs.Format.{Kept}
 use Rattle.journal.specs.Machine.{Runs, RunsRecords}
 use Rattle.upload_service.specs.Machine.{IsLawful, last_number}
 use Rattle.upload_journal.specs.declared.bodies.BodyFault.{BodyFault}
-use Rattle.upload_journal.specs.declared.bodies.BodyFault.TheVariants as bodies
 use Rattle.upload_journal.specs.declared.body.BodyFile.{BodyFile}
 use Rattle.upload_journal.specs.declared.entries.Entry.{Entry}
 use Rattle.upload_journal.specs.declared.entries.Entry.TheVariants.{NumbersUpTo}
 use Rattle.upload_journal.specs.declared.fault.EntryFault.{EntryFault}
 use Rattle.upload_journal.specs.declared.replay.ReplayFault.{ReplayFault}
-use Rattle.upload_journal.specs.declared.replay.ReplayFault.TheVariants.{NoMemory, NotAnEntry, MomentFalls, NoBody}
-use Rattle.upload_journal.specs.declared.replay.ReplayFault.TheVariants.{OtherLength, NotAsRecorded}
 use Rattle.upload_journal.specs.Entries.{IsEntry, entry_text, entry_of}
 use Rattle.upload_journal.specs.Replay.{Point, Replays}
-use Rattle.upload_journal.specs.Stops.{OfOne, FileFails, Stops, files_in}
+use Rattle.upload_journal.specs.Stops.{OfOne, FileFails, Stops}
 use Rattle.upload_store.specs.Found.{texts_of}
 use Rattle.upload_store.specs.Reading.{StandsIn}
 use Rattle.upload_store.specs.Rescuing.{Since, RefusedSince, Rescues}
 use Rattle.upload_store.specs.Runs.{stands_in, IsReplayOf}
-use Rattle.upload_store.specs.Salvage.{Stand, Salvages, refused_in, ready, of_read, before, raised}
+use Rattle.upload_store.specs.Salvage.{Stand, Salvages, refused_in, ready, raised}
 use Rattle.upload_store.specs.Salvage.{AreAmong, stand_at, finished}
 use Rattle.upload_store.proofs.Reruns.{ask_still, applies_still, replays_then, is_replay}
 use Rattle.upload_store.proofs.Rescues.{by_test, since_then}
@@ -34,11 +31,7 @@ use Rattle.upload_store.proofs.Rescues.{by_test, since_then}
 of_one_weaker : (P Q : BodyFile → Type 0) → ((file : BodyFile) → P file → Q file) → (files : List BodyFile)
     → OfOne P files → OfOne Q files
 of_one_weaker P Q weaker [] is = is
-of_one_weaker P Q weaker (file ∷ files) is =
-    elim is [
-      | inl here ↦ inl (weaker file here)
-      | inr there ↦ inr (of_one_weaker P Q weaker files there)
-    ]
+of_one_weaker P Q weaker (file ∷ files) is = search (rules, arith, of_one_weaker P Q weaker files)
 
 -- ---- what is told of the shelf in between holds of it at the end
 
@@ -56,71 +49,23 @@ module _ {S : Type 0} (held : S → ℕ → Option (List ℕ)) (may_leave : S �
 
     refused_still : (number : ℕ) (fault : BodyFault) → RefusedSince held may_leave IsClean faults old mid number fault
         → refused number fault
-    refused_still number bodies.NoMemory why = tt
-    refused_still number bodies.NotThere why = (since.0.all.each number).same ∙ why (since.0.clean clean)
-    refused_still number bodies.NotRead why = let more = since.1 in omega (arith, why, more, low)
+    refused_still number fault why = search (rules, arith)
 
     file_still : (fault : ReplayFault) (file : BodyFile)
         → FileFails (StandsIn held IsClean mid) (RefusedSince held may_leave IsClean faults old mid) fault file
         → FileFails stands refused fault file
-    file_still NoMemory file fails = tt
-    file_still (NotAnEntry fault) file fails = fails
-    file_still MomentFalls file fails = fails
-    file_still (NoBody number fault) file fails = (fails.0, refused_still file.number fault fails.1, fails.2)
-    file_still (OtherLength number) file fails =
-        let other = fails.1 in
-        (fails.0, (other.0, keeps file.number other.0 other.1, other.2))
-    file_still NotAsRecorded file fails = fails
+    file_still fault file fails = search (rules, arith, refused_still, keeps)
 
     stops_still : (point : Point) (read : Result Entry EntryFault) (fault : ReplayFault)
         → Stops (StandsIn held IsClean mid) (RefusedSince held may_leave IsClean faults old mid) point read fault
         → Stops stands refused point read fault
-    stops_still point read NoMemory why = tt
-    stops_still point read (NotAnEntry fault) why = why
-    stops_still point read MomentFalls why = why
-    stops_still point read (NoBody number fault) why = (
-      why.0,
-      why.1,
-      (why.2.0, of_one_weaker _ _ (file_still (NoBody number fault)) (files_in why.0.ask) why.2.1),
-    )
-    stops_still point read (OtherLength number) why = (
-      why.0,
-      why.1,
-      (why.2.0, of_one_weaker _ _ (file_still (OtherLength number)) (files_in why.0.ask) why.2.1),
-    )
-    stops_still point read NotAsRecorded why = (
-      why.0,
-      why.1,
-      record {
-        ask = why.2.ask;
-        asked = ask_still (StandsIn held IsClean mid) stands keeps why.0.ask why.2.ask why.2.asked;
-        other = why.2.other;
-        later = why.2.later;
-      },
-    )
+    stops_still point read fault why = search (rules, arith, of_one_weaker, file_still, ask_still, keeps)
 
     salvages_still : (from : Stand) (time : ℕ) (text : List ℕ) (to : Stand)
         → Salvages (StandsIn held IsClean mid) (RefusedSince held may_leave IsClean faults old mid) from time text to
         → Salvages stands refused from time text to
-    salvages_still from time text to (inl counts) =
-        inl
-        (record {
-          entry = counts.entry;
-          is_entry = counts.is_entry;
-          text_is = counts.text_is;
-          applies =
-              applies_still (StandsIn held IsClean mid) stands keeps (ready from (entry_of text)) counts.entry to.point
-              counts.applies;
-          is = counts.is;
-        })
-    salvages_still from time text to (inr loses) =
-        inr
-        (record {
-          fault = loses.fault;
-          some = loses.some;
-          stops = stops_still (ready from (entry_of text)) (entry_of text) loses.fault loses.stops;
-          is = loses.is;
-        })
+    salvages_still from time text to (inl counts) = search (rules, arith, applies_still, keeps)
+    salvages_still from time text to (inr loses) = search (rules, arith, stops_still)
 
   module _ {M : Type 0} (shelf : M → S) (stand : M → Stand) where
     abbrev pub rescues_by : M → ℕ → List ℕ → M → Type 0
@@ -150,11 +95,7 @@ module _ {S : Type 0} (held : S → ℕ → Option (List ℕ)) (may_leave : S �
     records_since : (time : ℕ) (old : M) (texts : List (List ℕ)) (new : M) → RunsRecords rescues_by time old texts new
         → faults (shelf old) ≤ faults (shelf new)
     records_since time old [] new same = let e = ap (λ m. faults (shelf m)) same in omega (arith, e)
-    records_since time old (text ∷ texts) new run =
-        let step = run.1 in
-        let grown = step.since.1 in
-        let rest = records_since time run.0 texts new run.2 in
-        omega (arith, grown, rest)
+    records_since time old (text ∷ texts) new run = omega (arith, records_since time run.0 texts new run.2)
 
     pub batches_saved : (old : M) (all : List Kept) (new : M) → Runs rescues_by old all new
         → faults first ≤ faults (shelf old) → To new
@@ -228,11 +169,7 @@ module _ (stands : ℕ → List ℕ → Type 0) (refused : ℕ → BodyFault →
       }
 
   led_ready : (it : Stand) (read : Result Entry EntryFault) → Led it.point [] (ready it read)
-  led_ready it read =
-      by_test (Led it.point []) (it.lost == 0) _ _ (λ _. led_none it.point)
-      (λ _.
-      by_test (Led it.point []) (nat_le (of_read before read) (it.point.state.issued + it.lost)) _ _
-      (λ _. led_raised (of_read before read) it.point) (λ _. led_none it.point))
+  led_ready it read = search (rules, arith, by_test, led_none, led_raised)
 
   led_one : (old : Stand) (time : ℕ) (text : List ℕ) (new : Stand) → Salvages stands refused old time text new
       → Led old.point (text ∷ []) new.point
@@ -267,8 +204,7 @@ module _ (stands : ℕ → List ℕ → Type 0) (refused : ℕ → BodyFault →
       → Led old.point (texts_of all) new.point
   led_batches old [] new same = subst (λ (s : Stand). Led old.point [] s.point) (sym same) (led_none old.point)
   led_batches old (kept ∷ rest) new run =
-      led_then old.point run.0.point new.point kept.1 (texts_of rest) (led_records kept.0 old kept.1 run.0 run.1)
-      (led_batches run.0 rest new run.2)
+      search (rules, arith, led_then, led_records, led_batches run.0 rest new run.2)
 
   -- with the numbers that are used up at the end
   led_whole : (old : Point) (all : List Kept) (end : Stand) → Runs (Salvages stands refused) (stand_at old) all end

@@ -1,5 +1,5 @@
 -- What records stand for, by what files have at the numbers that they name.
-use Rattle.std.proofs.Common.{◌≡◌, ◌∙◌, ℕ, List, [], ◌∷◌, ◌++◌, map, Option, refl, sym, ap, subst}
+use Rattle.std.proofs.Common.{◌≡◌, ℕ, List, [], ◌∷◌, ◌++◌, map, Option, refl, sym, subst, arith, rules}
 use Rattle.std.specs.List.{All}
 use Rattle.std.proofs.lemmas.List.{append-nil, map-append}
 use Rattle.std.proofs.lemmas.List.Concat.{flat_map-append}
@@ -16,7 +16,7 @@ module _ {X : Type 0} (P : X → Type 0) where
   pub All-front : (xs ys : List X) → All P (xs ++ ys) → All P xs
   All-front [] ys h = All-nil P
   All-front (x ∷ xs) ys h =
-      All-cons P x xs (All-head P x (xs ++ ys) h) (All-front xs ys (All-tail P x (xs ++ ys) h))
+      search (rules, arith, All-cons, All-head, All-tail, All-front xs ys (All-tail P x (xs ++ ys) h))
 
   pub All-behind : (xs ys : List X) → All P (xs ++ ys) → All P ys
   All-behind [] ys h = h
@@ -25,8 +25,7 @@ module _ {X : Type 0} (P : X → Type 0) where
 module _ (a b : ℕ → Option (List ℕ)) where
   same_files : (numbers : List ℕ) → All (λ n. a n ≡ b n) numbers → map a numbers ≡ map b numbers
   same_files [] h = refl
-  same_files (n ∷ ns) h = λ i.
-      All-head (λ n. a n ≡ b n) n ns h i ∷ same_files ns (All-tail (λ n. a n ≡ b n) n ns h) i
+  same_files (n ∷ ns) h = search (rules, arith, All-head, All-tail, same_files ns)
 
   same_texts : (texts : List (List ℕ)) → Agree a b texts → map (found_in a) texts ≡ map (found_in b) texts
   same_texts [] h = refl
@@ -46,8 +45,7 @@ module _ (a b : ℕ → Option (List ℕ)) where
 
 -- one batch more
 pub texts_added : (all : List Kept) (kept : Kept) → texts_of (all ++ kept ∷ []) ≡ texts_of all ++ kept.1
-texts_added all kept =
-    flat_map-append (λ (k : Kept). k.1) all (kept ∷ []) ∙ ap (λ (l : List (List ℕ)). texts_of all ++ l) (append-nil kept.1)
+texts_added all kept = simp (flat_map-append, append-nil)
 
 pub found_added : (files : ℕ → Option (List ℕ)) (all : List Kept) (kept : Kept)
     → found (all ++ kept ∷ []) files ≡ found all files ++ batch_in files kept ∷ []

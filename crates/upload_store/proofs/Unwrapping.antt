@@ -1,6 +1,7 @@
 -- A start over a shelf that reads ahead is a start over the shelf that it reads.
-use Rattle.std.proofs.Common.{◌≡◌, ◌∙◌, ◌+◌, ◌-◌, ◌<◌, ◌≤◌, ◌^◌, ℕ, List, length, Option, Result, Ok, Err, IfOk, IfErr, IsSome, IsTrue}
-use Rattle.std.proofs.Common.{sym, ap, subst, arith, false}
+use Rattle.std.proofs.Common.{◌≡◌, ◌∙◌, ◌+◌, ◌-◌, ◌<◌, ◌≤◌, ◌^◌, ℕ, List, length, Option, Result, Ok, Err, IfOk}
+use Rattle.std.proofs.Common.{IfErr, IsSome, IsTrue}
+use Rattle.std.proofs.Common.{sym, ap, subst, arith, false, rules}
 use Rattle.std.specs.List.{All}
 use Rattle.sqlite_disk.specs.declared.Disk.{Ghosts}
 use Rattle.sqlite_disk.specs.Disk.{MoreFaults}
@@ -38,7 +39,8 @@ pub if_err_so : {T E : Type 0} (P Q : E → Type 0) → ((e : E) → P e → Q e
 if_err_so P Q so (Ok x) told = tt
 if_err_so P Q so (Err e) told = so e told
 
-module _ {D S F R : Type 0} {g : Ghosts D} {s : shelves.Ghosts S F} {t : shelves.Ghosts (AheadShelf R S F) F} {f : Ghosts F}
+module _ {D S F R : Type 0} {g : Ghosts D} {s : shelves.Ghosts S F} {t : shelves.Ghosts (AheadShelf R S F) F}
+    {f : Ghosts F}
     (held : (x : AheadShelf R S F) → t.held x ≡ s.held (inner_of x))
     (left : (x : AheadShelf R S F) → t.may_leave x ≡ s.may_leave (inner_of x))
     (to : (x : AheadShelf R S F) → s.IsClean (inner_of x) → t.IsClean x)
@@ -67,20 +69,15 @@ module _ {D S F R : Type 0} {g : Ghosts D} {s : shelves.Ghosts S F} {t : shelves
     shelf_under clean = subst (λ (x : S). s.IsClean x) is.shelf (from (shelf_of over) clean)
 
     pub clean_over : IsClean store → IsClean over
-    clean_over clean = record {
-      disk = subst (λ (d : D). IsTrue (g.is_clean d)) (sym disk_is) clean.disk;
-      shelf = shelf_over clean.shelf;
-    }
+    clean_over clean = search (rules, arith, disk_is, shelf_over)
 
     pub clean_under : IsClean over → IsClean store
-    clean_under clean = record {
-      disk = subst (λ (d : D). IsTrue (g.is_clean d)) disk_is clean.disk;
-      shelf = shelf_under clean.shelf;
-    }
+    clean_under clean = search (rules, arith, disk_is, shelf_under)
 
   -- From a store another one was made, of the same records and the same bodies; and from that one over the shelf the
   -- new one.
-  module _ (old was new : Store D S F g s f) (before after : Store D (AheadShelf R S F) F g t f) (first : IsAhead was before) (last : IsAhead new after)
+  module _ (old was new : Store D S F g s f) (before after : Store D (AheadShelf R S F) F g t f)
+      (first : IsAhead was before) (last : IsAhead new after)
       (same : IsClean was → kept_of was ≡ kept_of old) (shelf_same : shelf_of was ≡ shelf_of old)
       (limits_same : limits_of was ≡ limits_of old) (back : IsClean after → IsClean before) where
     up : IsClean new → IsClean after
@@ -105,25 +102,22 @@ module _ {D S F R : Type 0} {g : Ghosts D} {s : shelves.Ghosts S F} {t : shelves
     faults_before = faults_is was before first ∙ ap (λ (x : S). s.faults x) shelf_same
 
     pub ran_under : (point : Point)
-        → (IsClean after → IsReplayOf (kept_of before) (t.held (shelf_of after)) (start_of (empty_state (limits_of before) 0))
+        → (IsClean after → IsReplayOf (kept_of before) (t.held (shelf_of after))
+        (start_of (empty_state (limits_of before) 0))
         point)
         → IsClean new
         → IsReplayOf (kept_of old) (s.held (shelf_of new)) (start_of (empty_state (limits_of old) 0)) point
-    ran_under point ran clean =
-        subst (λ files. IsReplayOf (kept_of old) files (start_of (empty_state (limits_of old) 0)) point)
-        (held_is new after last)
-        (subst (λ (l : Limits). IsReplayOf (kept_of old) (t.held (shelf_of after)) (start_of (empty_state l 0)) point)
-        limits_before
-        (subst (λ all. IsReplayOf all (t.held (shelf_of after)) (start_of (empty_state (limits_of before) 0)) point)
-        (kept_before clean) (ran (up clean))))
+    ran_under point ran clean = search (rules, arith, held_is, limits_before, kept_before, up)
 
     pub saved_under : (point : Point) (lost : ℕ) (listed : List Loss)
         → (IsClean after → IsSalvageOf (kept_of before) (t.held (shelf_of after))
-        (MoreFaults (t.faults (shelf_of before)) (t.faults (shelf_of after))) (start_of (empty_state (limits_of before) 0))
+        (MoreFaults (t.faults (shelf_of before)) (t.faults (shelf_of after)))
+        (start_of (empty_state (limits_of before) 0))
         point lost listed)
         → IsClean new
         → IsSalvageOf (kept_of old) (s.held (shelf_of new))
-        (MoreFaults (s.faults (shelf_of old)) (s.faults (shelf_of new))) (start_of (empty_state (limits_of old) 0)) point
+        (MoreFaults (s.faults (shelf_of old)) (s.faults (shelf_of new))) (start_of (empty_state (limits_of old) 0))
+        point
         lost listed
     saved_under point lost listed ran clean =
         subst
@@ -140,11 +134,13 @@ module _ {D S F R : Type 0} {g : Ghosts D} {s : shelves.Ghosts S F} {t : shelves
         (held_is new after last)
         (subst
         (λ (l : Limits). IsSalvageOf (kept_of old) (t.held (shelf_of after))
-        (MoreFaults (t.faults (shelf_of before)) (t.faults (shelf_of after))) (start_of (empty_state l 0)) point lost listed)
+        (MoreFaults (t.faults (shelf_of before)) (t.faults (shelf_of after))) (start_of (empty_state l 0)) point lost
+        listed)
         limits_before
         (subst
         (λ all. IsSalvageOf all (t.held (shelf_of after))
-        (MoreFaults (t.faults (shelf_of before)) (t.faults (shelf_of after))) (start_of (empty_state (limits_of before) 0))
+        (MoreFaults (t.faults (shelf_of before)) (t.faults (shelf_of after)))
+        (start_of (empty_state (limits_of before) 0))
         point lost listed)
         (kept_before clean) (ran (up clean))))))
 
@@ -153,9 +149,7 @@ module _ {D S F R : Type 0} {g : Ghosts D} {s : shelves.Ghosts S F} {t : shelves
 
     pub next_under : (IsClean after → (n : ℕ) → IsSome (t.held (shelf_of after) n) → n < next_of after)
         → IsClean new → (n : ℕ) → IsSome (s.held (shelf_of new) n) → n < next_of new
-    next_under told clean n there =
-        subst (λ next. n < next) last.next
-        (told (up clean) n (subst (λ (files : ℕ → Option (List ℕ)). IsSome (files n)) (sym (held_is new after last)) there))
+    next_under told clean n there = search (rules, arith, up, held_is)
 
     pub unnamed_under : (IsClean after
         → All (λ text. All (λ n. one_more n ≤ next_of after) (numbers_of text)) (texts_of (kept_of before)))
@@ -240,35 +234,17 @@ module _ {D S F R : Type 0} {g : Ghosts D} {s : shelves.Ghosts S F} {t : shelves
         → (mid : List ℕ) × g.may_leave (disk_of old) mid × (stored file ≡ stored mid))
         → IsClean new → (file : List ℕ) → g.may_leave (disk_of new) file
         → (mid : List ℕ) × g.may_leave (disk_of old) mid × (stored file ≡ stored mid)
-    any_under late early clean file may =
-        let one = late (up clean) file (subst (λ (d : D). g.may_leave d file) (sym (disk_is new after last)) may) in
-        let two = early (was_clean clean) one.0 (subst (λ (d : D). g.may_leave d one.0) (disk_is was before first) one.1) in
-        (two.0, two.1, one.2 ∙ two.2)
+    any_under late early clean file may = search (rules, arith, up, disk_is, was_clean)
 
     pub open_under : IsTrue (is_open after) → IsTrue (is_open new)
     open_under opened = subst (λ (j : Journal D g). IsTrue (journals.is_open j)) last.journal opened
 
-    pub limits_under : limits_of after ≡ limits_of before → limits_of new ≡ limits_of old
-    limits_under late = sym last.limits ∙ late ∙ limits_before
-
-    pub line_under : journals.line_of (journal_of after) ≡ journals.line_of (journal_of before)
-        → journals.line_of (journal_of was) ≡ journals.line_of (journal_of old)
-        → journals.line_of (journal_of new) ≡ journals.line_of (journal_of old)
-    line_under late early =
-        sym (ap (λ (j : Journal D g). journals.line_of j) last.journal) ∙ late
-        ∙ ap (λ (j : Journal D g). journals.line_of j) first.journal ∙ early
-
     pub longer_under : length (g.seen (disk_of before)) ≤ length (g.seen (disk_of after))
         → length (g.seen (disk_of old)) ≤ length (g.seen (disk_of was))
         → length (g.seen (disk_of old)) ≤ length (g.seen (disk_of new))
-    longer_under late early =
-        let a = ap (λ (d : D). length (g.seen d)) (disk_is was before first) in
-        let b = ap (λ (d : D). length (g.seen d)) (disk_is new after last) in
-        omega (arith, late, early, a, b)
+    longer_under late early = search (rules, arith, disk_is)
 
-    pub faults_under : g.faults (disk_of before) ≤ g.faults (disk_of after) → g.faults (disk_of old) ≤ g.faults (disk_of was)
+    pub faults_under : g.faults (disk_of before) ≤ g.faults (disk_of after)
+        → g.faults (disk_of old) ≤ g.faults (disk_of was)
         → g.faults (disk_of old) ≤ g.faults (disk_of new)
-    faults_under late early =
-        let a = ap (λ (d : D). g.faults d) (disk_is was before first) in
-        let b = ap (λ (d : D). g.faults d) (disk_is new after last) in
-        omega (arith, late, early, a, b)
+    faults_under late early = search (rules, arith, disk_is)

@@ -1,12 +1,12 @@
-use Rattle.std.proofs.Common.{◌≡◌, ◌+◌, ◌<◌, ◌++◌, ◌∷◌, [], inl, inr, ℕ, List, take, length, IsTrue, sym, ap}
-use Rattle.std.proofs.Common.{subst, ◌∙◌, arith, rules, refl, is_err, false, append_assoc, length-append}
+use Rattle.std.proofs.Common.{◌≡◌, ◌+◌, ◌<◌, ◌++◌, ◌∷◌, [], inl, inr, ℕ, List, take, length, sym, ap}
+use Rattle.std.proofs.Common.{subst, ◌∙◌, arith, rules, is_err, false, append_assoc, length-append}
 use Rattle.std.proofs.lemmas.List.{append-nil}
 use Rattle.journal.specs.Format.{Kept}
 use Rattle.journal.specs.Batch.{kept_at}
 use Rattle.upload_store.specs.declared.life.Round.{Round}
 use Rattle.upload_store.specs.Rounds.{rounds_kept, bodies_of}
 use Rattle.upload_store.specs.Safe.{AreWritten}
-use Rattle.upload_store.specs.Store.{is_open, shelf_of, kept_of, next_of}
+use Rattle.upload_store.specs.Store.{shelf_of, kept_of, next_of}
 use Rattle.upload_store.proofs.Crashes.{written_still, written_append}
 use Rattle.upload_store.proofs.Rounds.{if_ok, if_err_told, kept_more, bodies_more, size_more, round_fails}
 use Rattle.upload_store.proofs.Causes.{fails_behind}
@@ -15,23 +15,7 @@ use Rattle.std.proofs.Common.{true}
 use Rattle.upload_store.proofs.life.keep_each.Goals as goal
 
 pub loop-i-init : goal.loop-i-init
-loop-i-init g c =
-    let opened : IsTrue (is_open c.args.store.now) = search rules in
-    record {
-      is_still_open = opened;
-      limits = refl;
-      clean = λ clean. clean;
-      safe = λ n bytes clean safe. safe;
-      next = omega arith;
-      kept = λ clean. sym (append-nil (kept_of c.args.store.now));
-      written = λ clean. tt;
-      durable = λ clean file may. c.is_open.ensures.batches opened clean file may;
-      ends = omega arith;
-      behind = λ n low. refl;
-      usable = λ none. none;
-      disk_faults = omega arith;
-      shelf_faults = omega arith;
-    }
+loop-i-init g c = search (rules, arith, append-nil)
 
 pub loop-i-preserved : goal.loop-i-preserved
 loop-i-preserved g c =

@@ -1,4 +1,4 @@
-use Rattle.std.proofs.Common.{◌∙◌, ◌-◌, ◌^◌, IsSome, ap, sym, subst, arith, take}
+use Rattle.std.proofs.Common.{◌∙◌, ap, subst, arith, take}
 use Rattle.journal.proofs.Causes.{because_weaker}
 use Rattle.journal.specs.Format.{stored}
 use Rattle.upload_service.specs.Machine.{empty_state}

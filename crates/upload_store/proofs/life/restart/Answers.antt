@@ -1,24 +1,16 @@
-use Rattle.std.proofs.Common.{◌∙◌, ◌-◌, ◌^◌, IsSome, ap, sym, subst, arith, take}
+use Rattle.std.proofs.Common.{◌∙◌, ◌-◌, ◌^◌, IsSome, ap, sym, subst, arith, take, rules}
 use Rattle.journal.specs.Format.{sector}
 use Rattle.journal.proofs.Causes.{because_weaker}
 use Rattle.upload_store.proofs.Causes.{comes_weaker, fault_weaker}
-use Rattle.upload_store.specs.Store.{shelf_of, disk_of}
+use Rattle.upload_store.specs.Store.{disk_of}
 use Rattle.upload_store.proofs.Crashes.{crash_still, reads_still}
 use Rattle.upload_store.proofs.life.restart.Goals as goal
 
 pub returns-in-Err-clause-safe : goal.returns-in-Err-clause-safe
-returns-in-Err-clause-safe g c n bytes safe =
-    reads_still g.S.Shelf.held g.S.Shelf.may_leave g.S.Shelf.IsClean (shelf_of c.crash.new.self)
-    (shelf_of c.recover.new.self) c.recover.ensures.reads n bytes
-    (crash_still g.S.Shelf.held g.S.Shelf.may_leave (shelf_of c.args.store.now) (shelf_of c.crash.new.self)
-    c.crash.ensures.left_bodies c.crash.ensures.no_more_bodies n bytes safe)
+returns-in-Err-clause-safe g c n bytes safe = search (rules, arith, reads_still, crash_still)
 
 pub returns-in-Ok-clause-safe : goal.returns-in-Ok-clause-safe
-returns-in-Ok-clause-safe g c n bytes safe =
-    reads_still g.S.Shelf.held g.S.Shelf.may_leave g.S.Shelf.IsClean (shelf_of c.crash.new.self)
-    (shelf_of c.recover.new.self) c.recover.ensures.reads n bytes
-    (crash_still g.S.Shelf.held g.S.Shelf.may_leave (shelf_of c.args.store.now) (shelf_of c.crash.new.self)
-    c.crash.ensures.left_bodies c.crash.ensures.no_more_bodies n bytes safe)
+returns-in-Ok-clause-safe g c n bytes safe = search (rules, arith, reads_still, crash_still)
 
 pub returns-in-Err-clause-any_crash : goal.returns-in-Err-clause-any_crash
 returns-in-Err-clause-any_crash g c clean file may =

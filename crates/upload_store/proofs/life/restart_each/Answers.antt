@@ -1,14 +1,8 @@
-use Rattle.std.proofs.Common.{◌∙◌, refl, arith}
+use Rattle.std.proofs.Common.{◌∙◌, arith, rules}
 use Rattle.upload_store.proofs.life.restart_each.Goals as goal
 
 pub loop-init : goal.loop-init
-loop-init g c = record {
-  safe = λ n bytes safe. safe;
-  limits = refl;
-  faults = (omega arith, omega arith);
-  clean = λ clean. clean;
-  any_crash = λ clean file may. (file, may, refl);
-}
+loop-init g c = search (rules, arith)
 
 pub loop-preserved : goal.loop-preserved
 loop-preserved g c = record {

@@ -1,5 +1,4 @@
-use Rattle.std.proofs.Common.{◌<◌, ◌≤◌, ℕ, List, take, length, subst, arith}
-use Rattle.std.specs.List.{All}
+use Rattle.std.proofs.Common.{◌<◌, ◌≤◌, ℕ, List, take, length, arith, rules}
 use Rattle.std.proofs.lemmas.List.{take_all}
 use Rattle.std.proofs.lemmas.List.Elements.{All-more, All-weaker}
 use Rattle.upload_store.proofs.store.above.Goals as goal
@@ -18,7 +17,4 @@ loop-number-preserved c =
     (omega (arith, c.max-next.ensures, c.in_ok-behind.ensures.1))
 
 pub returns-clause-some : goal.returns-clause-some
-returns-clause-some c =
-    let numbers : List ℕ = c.args.numbers.now in
-    subst (All (λ n. n < c.loop-number.next))
-    (take_all c.loop-number.number-index numbers (omega (arith, c.loop-number-test.false))) c.loop-number.invariant
+returns-clause-some c = search (rules, arith, take_all)

@@ -1,4 +1,4 @@
-use Rattle.std.proofs.Common.{◌+◌, ◌-◌, ◌<◌, ◌++◌, List, ℕ, ap, sym, ◌∙◌, arith, take, drop, length, get_or}
+use Rattle.std.proofs.Common.{◌+◌, ◌-◌, ◌<◌, List, ℕ, ap, sym, ◌∙◌, arith, take, drop, length, get_or, rules}
 use Rattle.std.proofs.Common.{append_assoc}
 use Rattle.std.proofs.Common.{length-append}
 use Rattle.std.specs.List.{concat}
@@ -8,22 +8,7 @@ use Rattle.upload_store.proofs.Causes.{fault_weaker}
 use Rattle.upload_store.proofs.store.put_parts.Goals as goal
 
 pub loop-part-preserved : goal.loop-part-preserved
-loop-part-preserved g c =
-    let parts : List (List ℕ) = c.args.parts.now in
-    let front : List ℕ = concat (take c.loop-part.part-index parts) in
-    let begun : List ℕ = bytes_of c.args.file.now in
-    let item = c.as_slice.ensures ∙ c.part-item.is in
-    let next = concat-take_next parts c.loop-part.part-index c.part-item.result
-    (omega (arith, c.loop-part-test.true, c.loop-part.auto.part-index-end)) in
-    record {
-      written =
-          c.in_default.ensures.written
-          ∙ ap (λ r. r ++ c.as_slice.result.now) c.loop-part.invariant.written
-          ∙ append_assoc begun front c.as_slice.result.now
-          ∙ ap (λ r. begun ++ r) (ap (λ r. front ++ r) item ∙ sym next);
-      number = c.append.ensures.number ∙ c.loop-part.invariant.number;
-      is_still_open = c.in_default.ensures.open;
-    }
+loop-part-preserved g c = search (rules, arith, concat-take_next, append_assoc)
 
 pub returns-in-Err-clause-cause : goal.returns-in-Err-clause-cause
 returns-in-Err-clause-cause g c =

@@ -1,10 +1,8 @@
-use Rattle.std.proofs.Common.{◌≡◌, ◌∙◌, ◌≤◌, List, ℕ, Result, Ok, Err, OnOk, is_err, false, sym, ap}
+use Rattle.std.proofs.Common.{◌≡◌, ◌∙◌, ◌≤◌, List, ℕ, Result, Ok, Err, OnOk, is_err, false, sym, ap, rules}
 use Rattle.std.proofs.Common.{take, length, arith, length-append}
 use Rattle.upload_store.proofs.Pieces.{came_more}
 use Rattle.upload_store.proofs.Reading.{reads_then}
 use Rattle.upload_store.proofs.Rescues.{since_then, fault_fewer, refused_as}
-use Rattle.upload_store.specs.Rescuing.{RefusedSince}
-use Rattle.std.proofs.Common.{subst}
 use Rattle.upload_store.proofs.files.FilesBodies.read.Goals as goal
 
 pub returns-in-Err-clause-keeps : goal.returns-in-Err-clause-keeps
@@ -32,18 +30,10 @@ returns-then-is_err-clause-keeps g c first kept =
     (record { all = c.read_at.ensures.same; clean = c.read_at.ensures.clean }, omega (arith, same)))
 
 pub returns-clause-keeps : goal.returns-clause-keeps
-returns-clause-keeps g c first kept =
-    since_then g.S.Shelf.held g.S.Shelf.may_leave g.S.Shelf.IsClean g.S.Shelf.faults first.shelf c.args.self.now.shelf
-    c.loop.self.shelf kept (c.loop.invariant.reads, c.loop.invariant.faults)
+returns-clause-keeps g c first kept = search (rules, arith, since_then)
 
 pub returns-in-Err-clause-refused : goal.returns-in-Err-clause-refused
-returns-in-Err-clause-refused g c first kept =
-    let fewer = kept.1 in
-    subst (RefusedSince g.S.Shelf.held g.S.Shelf.may_leave g.S.Shelf.IsClean g.S.Shelf.faults first.shelf
-    c.read_at.new.self c.args.number) (sym c.fault_of.ensures)
-    (refused_as g.S.Shelf.held g.S.Shelf.may_leave g.S.Shelf.IsClean g.S.Shelf.faults first.shelf c.loop.self.shelf
-    c.read_at.new.self c.args.number (omega (arith, fewer, c.loop.invariant.faults)) c.read_at.ensures.same
-    c.in-Err.fault c.in-Err.ensures.faults)
+returns-in-Err-clause-refused g c first kept = search (rules, arith, refused_as)
 
 -- what an `Ok` tells
 if_ok : {T E : Type 0} (result : Result T E) (P : Type 0) → is_err result ≡ false → OnOk result P → P

@@ -1,4 +1,4 @@
-use Rattle.std.proofs.Common.{◌∙◌, Option, Some, None, IfSome, arith}
+use Rattle.std.proofs.Common.{Option, Some, None, IfSome, arith, rules}
 use Rattle.upload_store.proofs.Rescues.{since_then}
 use Rattle.upload_store.proofs.files.FilesBodies.ready.Goals as goal
 
@@ -9,13 +9,10 @@ if_some None more told = tt
 if_some (Some x) more told = more x told
 
 pub returns-clause-read : goal.returns-clause-read
-returns-clause-read g c =
-    if_some c.ready.result (λ body told clean. (c.ready.ensures.same.each c.args.number).same ∙ told clean)
-    c.ready.ensures.read
+returns-clause-read g c = search (rules, arith, if_some)
 
 pub returns-clause-same : goal.returns-clause-same
-returns-clause-same g c n bytes stood clean =
-    (c.ready.ensures.same.each n).same ∙ stood (c.ready.ensures.clean clean)
+returns-clause-same g c n bytes stood clean = search (rules, arith)
 
 pub returns-clause-keeps : goal.returns-clause-keeps
 returns-clause-keeps g c first kept =

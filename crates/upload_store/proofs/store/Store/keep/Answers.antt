@@ -1,12 +1,10 @@
-use Rattle.std.proofs.Common.{◌≡◌, ◌+◌, ◌<◌, ◌++◌, ◌∷◌, [], inl, inr, ℕ, List, take, length, IsTrue, sym, ap}
+use Rattle.std.proofs.Common.{◌≡◌, ◌+◌, ◌<◌, ◌++◌, ◌∷◌, [], ℕ, List, take, length, sym, ap, rules}
 use Rattle.std.proofs.Common.{subst}
-use Rattle.std.proofs.Common.{◌∙◌, arith, refl, length-take}
+use Rattle.std.proofs.Common.{◌∙◌, arith, length-take}
 use Rattle.std.proofs.lemmas.List.{take_all}
-use Rattle.journal.specs.Format.{Kept}
-use Rattle.journal.specs.Batch.{kept_at}
 use Rattle.journal.specs.Journal as journals
 use Rattle.upload_store.specs.Safe.{IsSafe, AreWritten}
-use Rattle.upload_store.specs.Store.{shelf_of, kept_of, next_of, is_open}
+use Rattle.upload_store.specs.Store.{shelf_of, next_of}
 use Rattle.upload_store.proofs.Crashes.{written_still, written_append}
 use Rattle.upload_store.proofs.Rounds.{one_more}
 use Rattle.upload_store.specs.Faults.{BodyFails}
@@ -16,17 +14,7 @@ use Rattle.std.proofs.Common.{drop}
 use Rattle.upload_store.proofs.store.Store.keep.Goals as goal
 
 pub loop-body-init : goal.loop-body-init
-loop-body-init g c = record {
-  journal = refl;
-  next = omega arith;
-  limits = refl;
-  clean = λ clean. clean;
-  safe = λ n bytes clean safe. safe;
-  written = λ clean. tt;
-  behind = λ n low. refl;
-  usable = λ none. none;
-  faults = omega arith;
-}
+loop-body-init g c = search (rules, arith)
 
 pub loop-body-preserved : goal.loop-body-preserved
 loop-body-preserved g c =
@@ -66,59 +54,16 @@ loop-body-preserved g c =
     }
 
 pub returns-in-Err-clause-any_crash : goal.returns-in-Err-clause-any_crash
-returns-in-Err-clause-any_crash g c opened clean file may =
-    let same = c.loop-body.invariant.journal in
-    let is_still : IsTrue (is_open c.loop-body.self) = subst (λ j. IsTrue (journals.is_open j)) (sym same) opened in
-    inl (c.put_body.ensures.batches is_still clean file may ∙ ap journals.kept same)
+returns-in-Err-clause-any_crash g c opened clean file may = search (rules, arith)
 
 pub returns-in-Ok-clause-written : goal.returns-in-Ok-clause-written
-returns-in-Ok-clause-written g c clean =
-    let held = g.S.Shelf.held in
-    let may_leave = g.S.Shelf.may_leave in
-    let bodies : List (List ℕ) = c.args.bodies.now in
-    let first = next_of c.args.self.now in
-    let all = take_all c.loop-body.body-index bodies (omega (arith, c.loop-body-test.false)) in
-    subst (λ shelf. AreWritten held may_leave shelf first bodies) (sym c.append.ensures.shelf)
-    (subst (AreWritten held may_leave (shelf_of c.loop-body.self) first) all
-    (c.loop-body.invariant.written (c.append.ensures.clean clean)))
+returns-in-Ok-clause-written g c clean = search (rules, arith, take_all)
 
 pub returns-in-Err-append-clause-any_crash : goal.returns-in-Err-append-clause-any_crash
-returns-in-Err-append-clause-any_crash g c opened clean file may =
-    let held = g.S.Shelf.held in
-    let may_leave = g.S.Shelf.may_leave in
-    let bodies : List (List ℕ) = c.args.bodies.now in
-    let first = next_of c.args.self.now in
-    let same = c.loop-body.invariant.journal in
-    let is_still : IsTrue (is_open c.loop-body.self) = subst (λ j. IsTrue (journals.is_open j)) (sym same) opened in
-    let kept_is : kept_of c.loop-body.self ≡ kept_of c.args.self.now = ap journals.kept same in
-    let all = take_all c.loop-body.body-index bodies (omega (arith, c.loop-body-test.false)) in
-    let written = subst (λ shelf. AreWritten held may_leave shelf first bodies) (sym c.append.ensures.shelf)
-    (subst (AreWritten held may_leave (shelf_of c.loop-body.self) first) all
-    (c.loop-body.invariant.written (c.append.ensures.clean clean))) in
-    elim (c.append.ensures.batches is_still clean file may) [
-      | inl old ↦ inl (old ∙ kept_is)
-      | inr new ↦ inr
-          (new ∙ ap (λ (l : List Kept). l ++ kept_at c.args.time c.args.batch.now ∷ []) kept_is, written)
-    ]
+returns-in-Err-append-clause-any_crash g c opened clean file may = search (rules, arith, take_all)
 
 pub returns-in-Ok-clause-any_crash : goal.returns-in-Ok-clause-any_crash
-returns-in-Ok-clause-any_crash g c opened clean file may =
-    let held = g.S.Shelf.held in
-    let may_leave = g.S.Shelf.may_leave in
-    let bodies : List (List ℕ) = c.args.bodies.now in
-    let first = next_of c.args.self.now in
-    let same = c.loop-body.invariant.journal in
-    let is_still : IsTrue (is_open c.loop-body.self) = subst (λ j. IsTrue (journals.is_open j)) (sym same) opened in
-    let kept_is : kept_of c.loop-body.self ≡ kept_of c.args.self.now = ap journals.kept same in
-    let all = take_all c.loop-body.body-index bodies (omega (arith, c.loop-body-test.false)) in
-    let written = subst (λ shelf. AreWritten held may_leave shelf first bodies) (sym c.append.ensures.shelf)
-    (subst (AreWritten held may_leave (shelf_of c.loop-body.self) first) all
-    (c.loop-body.invariant.written (c.append.ensures.clean clean))) in
-    elim (c.append.ensures.batches is_still clean file may) [
-      | inl old ↦ inl (old ∙ kept_is)
-      | inr new ↦ inr
-          (new ∙ ap (λ (l : List Kept). l ++ kept_at c.args.time c.args.batch.now ∷ []) kept_is, written)
-    ]
+returns-in-Ok-clause-any_crash g c opened clean file may = search (rules, arith, take_all)
 
 pub returns-in-Err-clause-safe : goal.returns-in-Err-clause-safe
 returns-in-Err-clause-safe g c n bytes clean safe =
@@ -126,9 +71,7 @@ returns-in-Err-clause-safe g c n bytes clean safe =
     (c.loop-body.invariant.safe n bytes (c.put_body.ensures.clean clean) safe)
 
 pub returns-in-Err-append-clause-safe : goal.returns-in-Err-append-clause-safe
-returns-in-Err-append-clause-safe g c n bytes clean safe =
-    subst (λ shelf. IsSafe g.S.Shelf.held g.S.Shelf.may_leave shelf n bytes) (sym c.append.ensures.shelf)
-    (c.loop-body.invariant.safe n bytes (c.append.ensures.clean clean) safe)
+returns-in-Err-append-clause-safe g c n bytes clean safe = grind arith
 
 pub returns-in-Ok-clause-safe : goal.returns-in-Ok-clause-safe
 returns-in-Ok-clause-safe g c n bytes clean safe =

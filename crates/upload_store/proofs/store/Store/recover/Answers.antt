@@ -1,10 +1,10 @@
-use Rattle.std.proofs.Common.{arith, ◌∙◌, None, IsSome, sym, subst}
+use Rattle.std.proofs.Common.{arith, ◌∙◌, None, IsSome, sym, subst, rules}
 use Rattle.upload_service.specs.Machine.{empty_state}
 use Rattle.upload_service.proofs.Serving.{empty_is_lawful}
 use Rattle.upload_journal.specs.Replay.{Point}
 use Rattle.upload_store.specs.Found.{texts_of}
 use Rattle.upload_store.specs.Runs.{IsReplayOf, start_of}
-use Rattle.upload_store.specs.Store.{shelf_of, kept_of, limits_of}
+use Rattle.upload_store.specs.Store.{kept_of, limits_of}
 use Rattle.upload_store.specs.Rerunning.{shelf_in, point_in}
 use Rattle.upload_store.specs.declared.rerun.Rerun.{Rerun}
 use Rattle.upload_store.proofs.Reading.{reads_none, reads_then}
@@ -20,7 +20,8 @@ returns-clause-ran g c clean =
     let listed = c.next_number.new.shelf in
     let machine = c.recover.new.machine in
     let ran =
-    batches_ran held may_leave g.S.Shelf.IsClean shelf_in point_in _ kept machine (c.in_default.ensures.ran clean.disk) in
+    batches_ran held may_leave g.S.Shelf.IsClean shelf_in point_in _ kept machine
+    (c.in_default.ensures.ran clean.disk) in
     let from : Ran held may_leave g.S.Shelf.IsClean listed start (texts_of kept) machine.files.shelf machine.replay =
     subst (λ (p : Point). Ran held may_leave g.S.Shelf.IsClean listed p (texts_of kept) machine.files.shelf
     machine.replay) c.new_replay.ensures ran in
@@ -29,18 +30,7 @@ returns-clause-ran g c clean =
     (empty_is_lawful (limits_of c.args.self.now) 0) clean.shelf from)
 
 pub returns-clause-reads : goal.returns-clause-reads
-returns-clause-reads g c =
-    let listed = c.next_number.new.shelf in
-    let begun : Rerun g.row.S.Denot g.row.S-File.Denot = record c.args.self.now.run.rerun {
-      files = record { shelf = listed };
-      replay = c.new_replay.result;
-      count = 0;
-      refused = None;
-    } in
-    reads_then g.S.Shelf.held g.S.Shelf.may_leave g.S.Shelf.IsClean (shelf_of c.args.self.now) listed
-    c.recover.new.machine.files.shelf c.next_number.ensures.reads
-    (c.recover.ensures.keeps begun
-    (reads_none g.S.Shelf.held g.S.Shelf.may_leave g.S.Shelf.IsClean listed, omega arith)).0
+returns-clause-reads g c = search (rules, arith, reads_then, reads_none)
 
 pub returns-clause-next : goal.returns-clause-next
 returns-clause-next g c clean n there =
@@ -57,15 +47,4 @@ returns-clause-next g c clean n there =
     (subst IsSome ((reads.all.each n).same ∙ (c.next_number.ensures.reads.all.each n).same) there)
 
 pub returns-clause-of_shelf : goal.returns-clause-of_shelf
-returns-clause-of_shelf g c =
-    let listed = c.next_number.new.shelf in
-    let begun : Rerun g.row.S.Denot g.row.S-File.Denot = record c.args.self.now.run.rerun {
-      files = record { shelf = listed };
-      replay = c.new_replay.result;
-      count = 0;
-      refused = None;
-    } in
-    let first = c.next_number.ensures.faults in
-    let then' = (c.recover.ensures.keeps begun
-    (reads_none g.S.Shelf.held g.S.Shelf.may_leave g.S.Shelf.IsClean listed, omega arith)).1 in
-    omega (arith, first, then')
+returns-clause-of_shelf g c = search (rules, arith, reads_none)

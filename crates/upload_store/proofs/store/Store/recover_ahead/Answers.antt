@@ -1,97 +1,77 @@
-use Rattle.std.proofs.Common.{refl, sym, subst, arith}
-use Rattle.upload_store.specs.Store.{shelf_of}
+use Rattle.std.proofs.Common.{refl, arith, rules}
 use Rattle.upload_store.proofs.Unwrapping.{if_ok_so, if_err_so, ran_under, same_under, next_under}
 use Rattle.upload_store.proofs.Unwrapping.{reads_under, cause_under, any_under, clean_over, clean_under}
-use Rattle.upload_store.proofs.Unwrapping.{open_under, limits_under, line_under, longer_under, faults_under}
+use Rattle.upload_store.proofs.Unwrapping.{open_under, longer_under, faults_under}
 use Rattle.upload_store.proofs.Reading.{reads_none}
-use Rattle.upload_store.specs.Reading.{ReadsOnly}
 use Rattle.upload_store.proofs.Causes.{comes_weaker}
 use Rattle.journal.proofs.Causes.{never}
 use Rattle.upload_store.proofs.store.Store.recover_ahead.Goals as goal
 
 pub returns-clause-ran : goal.returns-clause-ran
-returns-clause-ran g c =
-    if_ok_so _ _ (λ replay told. ran_under (λ x. refl) (λ x. refl) (λ x h. h) (λ x h. h) (λ x. refl) c.args.self c.list_hints.new.self c.unwrapped.result c.ahead-ahead.result c.recover-recovered.new.self c.ahead-ahead.ensures c.unwrapped.ensures
-    c.in-Ok.ensures.same c.list_hints.ensures.shelf c.list_hints.ensures.limits c.recover-recovered.ensures.clean replay told)
-    c.recover-recovered.result c.recover-recovered.ensures.ran
+returns-clause-ran g c = grind (arith, if_ok_so, ran_under)
 
 pub returns-clause-same : goal.returns-clause-same
 returns-clause-same g c =
-    if_ok_so _ _ (λ value told. same_under (λ x. refl) (λ x. refl) (λ x h. h) (λ x h. h) (λ x. refl) c.args.self c.list_hints.new.self c.unwrapped.result c.ahead-ahead.result c.recover-recovered.new.self c.ahead-ahead.ensures c.unwrapped.ensures
+    if_ok_so _ _ (λ value told. same_under (λ x. refl) (λ x. refl) (λ x h. h) (λ x h. h) (λ x. refl) c.args.self
+    c.list_hints.new.self c.unwrapped.result c.ahead-ahead.result c.recover-recovered.new.self c.ahead-ahead.ensures
+    c.unwrapped.ensures
     c.in-Ok.ensures.same c.list_hints.ensures.shelf c.list_hints.ensures.limits c.recover-recovered.ensures.clean told)
     c.recover-recovered.result c.recover-recovered.ensures.same
 
 pub returns-clause-next : goal.returns-clause-next
 returns-clause-next g c =
-    if_ok_so _ _ (λ value told. next_under (λ x. refl) (λ x. refl) (λ x h. h) (λ x h. h) (λ x. refl) c.args.self c.list_hints.new.self c.unwrapped.result c.ahead-ahead.result c.recover-recovered.new.self c.ahead-ahead.ensures c.unwrapped.ensures
+    if_ok_so _ _ (λ value told. next_under (λ x. refl) (λ x. refl) (λ x h. h) (λ x h. h) (λ x. refl) c.args.self
+    c.list_hints.new.self c.unwrapped.result c.ahead-ahead.result c.recover-recovered.new.self c.ahead-ahead.ensures
+    c.unwrapped.ensures
     c.in-Ok.ensures.same c.list_hints.ensures.shelf c.list_hints.ensures.limits c.recover-recovered.ensures.clean told)
     c.recover-recovered.result c.recover-recovered.ensures.next
 
 pub returns-clause-reads : goal.returns-clause-reads
 returns-clause-reads g c =
-    reads_under (λ x. refl) (λ x. refl) (λ x h. h) (λ x h. h) (λ x. refl) c.args.self c.list_hints.new.self c.unwrapped.result c.ahead-ahead.result c.recover-recovered.new.self c.ahead-ahead.ensures c.unwrapped.ensures
+    reads_under (λ x. refl) (λ x. refl) (λ x h. h) (λ x h. h) (λ x. refl) c.args.self c.list_hints.new.self
+    c.unwrapped.result c.ahead-ahead.result c.recover-recovered.new.self c.ahead-ahead.ensures c.unwrapped.ensures
     c.in-Ok.ensures.same c.list_hints.ensures.shelf c.list_hints.ensures.limits c.recover-recovered.ensures.clean
     c.recover-recovered.ensures.reads
 
 pub returns-clause-clean : goal.returns-clause-clean
-returns-clause-clean g c clean =
-    c.list_hints.ensures.clean
-    (clean_under (λ x. refl) (λ x. refl) (λ x h. h) (λ x h. h) (λ x. refl) _ _ c.ahead-ahead.ensures
-    (c.recover-recovered.ensures.clean
-    (clean_over (λ x. refl) (λ x. refl) (λ x h. h) (λ x h. h) (λ x. refl) _ _ c.unwrapped.ensures clean)))
+returns-clause-clean g c clean = search (rules, arith, clean_under, clean_over)
 
 pub returns-clause-cause : goal.returns-clause-cause
 returns-clause-cause g c =
     if_err_so _ _
-    (λ fault why. cause_under (λ x. refl) (λ x. refl) (λ x h. h) (λ x h. h) (λ x. refl) c.args.self c.list_hints.new.self c.unwrapped.result c.ahead-ahead.result c.recover-recovered.new.self c.ahead-ahead.ensures c.unwrapped.ensures
+    (λ fault why. cause_under (λ x. refl) (λ x. refl) (λ x h. h) (λ x h. h) (λ x. refl) c.args.self
+    c.list_hints.new.self c.unwrapped.result c.ahead-ahead.result c.recover-recovered.new.self c.ahead-ahead.ensures
+    c.unwrapped.ensures
     c.in-Ok.ensures.same c.list_hints.ensures.shelf c.list_hints.ensures.limits c.recover-recovered.ensures.clean
     _ c.list_hints.ensures.faults fault why)
     c.recover-recovered.result c.recover-recovered.ensures.cause
 
 pub returns-clause-any_crash : goal.returns-clause-any_crash
 returns-clause-any_crash g c =
-    any_under (λ x. refl) (λ x. refl) (λ x h. h) (λ x h. h) (λ x. refl) c.args.self c.list_hints.new.self c.unwrapped.result c.ahead-ahead.result c.recover-recovered.new.self c.ahead-ahead.ensures c.unwrapped.ensures
+    any_under (λ x. refl) (λ x. refl) (λ x h. h) (λ x h. h) (λ x. refl) c.args.self c.list_hints.new.self
+    c.unwrapped.result c.ahead-ahead.result c.recover-recovered.new.self c.ahead-ahead.ensures c.unwrapped.ensures
     c.in-Ok.ensures.same c.list_hints.ensures.shelf c.list_hints.ensures.limits c.recover-recovered.ensures.clean
     c.recover-recovered.ensures.any_crash c.list_hints.ensures.any_crash
 
 pub returns-clause-open : goal.returns-clause-open
-returns-clause-open g c =
-    if_ok_so _ _ (λ value told. open_under (λ x. refl) (λ x. refl) (λ x h. h) (λ x h. h) (λ x. refl) c.args.self c.list_hints.new.self c.unwrapped.result c.ahead-ahead.result c.recover-recovered.new.self c.ahead-ahead.ensures c.unwrapped.ensures
-    c.in-Ok.ensures.same c.list_hints.ensures.shelf c.list_hints.ensures.limits c.recover-recovered.ensures.clean told)
-    c.recover-recovered.result c.recover-recovered.ensures.open
+returns-clause-open g c = search (rules, arith, if_ok_so, open_under)
 
 pub returns-clause-limits : goal.returns-clause-limits
-returns-clause-limits g c =
-    limits_under (λ x. refl) (λ x. refl) (λ x h. h) (λ x h. h) (λ x. refl) c.args.self c.list_hints.new.self c.unwrapped.result c.ahead-ahead.result c.recover-recovered.new.self c.ahead-ahead.ensures c.unwrapped.ensures
-    c.in-Ok.ensures.same c.list_hints.ensures.shelf c.list_hints.ensures.limits c.recover-recovered.ensures.clean
-    c.recover-recovered.ensures.limits
+returns-clause-limits g c = cc
 
 pub returns-clause-line : goal.returns-clause-line
-returns-clause-line g c =
-    line_under (λ x. refl) (λ x. refl) (λ x h. h) (λ x h. h) (λ x. refl) c.args.self c.list_hints.new.self c.unwrapped.result c.ahead-ahead.result c.recover-recovered.new.self c.ahead-ahead.ensures c.unwrapped.ensures
-    c.in-Ok.ensures.same c.list_hints.ensures.shelf c.list_hints.ensures.limits c.recover-recovered.ensures.clean
-    c.recover-recovered.ensures.line c.list_hints.ensures.line
+returns-clause-line g c = cc
 
 pub returns-clause-longer : goal.returns-clause-longer
-returns-clause-longer g c =
-    longer_under (λ x. refl) (λ x. refl) (λ x h. h) (λ x h. h) (λ x. refl) c.args.self c.list_hints.new.self c.unwrapped.result c.ahead-ahead.result c.recover-recovered.new.self c.ahead-ahead.ensures c.unwrapped.ensures
-    c.in-Ok.ensures.same c.list_hints.ensures.shelf c.list_hints.ensures.limits c.recover-recovered.ensures.clean
-    c.recover-recovered.ensures.longer c.list_hints.ensures.longer
+returns-clause-longer g c = search (rules, arith, longer_under)
 
 pub returns-clause-faults : goal.returns-clause-faults
-returns-clause-faults g c =
-    faults_under (λ x. refl) (λ x. refl) (λ x h. h) (λ x h. h) (λ x. refl) c.args.self c.list_hints.new.self c.unwrapped.result c.ahead-ahead.result c.recover-recovered.new.self c.ahead-ahead.ensures c.unwrapped.ensures
-    c.in-Ok.ensures.same c.list_hints.ensures.shelf c.list_hints.ensures.limits c.recover-recovered.ensures.clean
-    c.recover-recovered.ensures.faults c.list_hints.ensures.faults
+returns-clause-faults g c = search (rules, arith, faults_under)
 
 -- the journal could not be read for the hints
 
 pub returns-in-Err-clause-reads : goal.returns-in-Err-clause-reads
-returns-in-Err-clause-reads g c =
-    subst
-    (λ (x : g.row.S.Denot). ReadsOnly g.S.Shelf.held g.S.Shelf.may_leave g.S.Shelf.IsClean (shelf_of c.args.self) x)
-    (sym c.list_hints.ensures.shelf)
-    (reads_none g.S.Shelf.held g.S.Shelf.may_leave g.S.Shelf.IsClean (shelf_of c.args.self))
+returns-in-Err-clause-reads g c = search (rules, arith, reads_none)
 
 pub returns-in-Err-clause-cause : goal.returns-in-Err-clause-cause
 returns-in-Err-clause-cause g c = record {
