@@ -1,14 +1,13 @@
 -- From the spans of a reply's head to what is heard.
 use Rattle.std.proofs.Common.{◌≡◌, ℕ, ◌<◌, ◌≤◌, List, [], ◌++◌, length, take, drop, sym, ap, ◌∙◌, refl, subst, arith}
-use Rattle.std.proofs.Common.{append_assoc, length-append, length-take, inl, inr, Bool}
+use Rattle.std.proofs.Common.{append_assoc, length-append, length-take, inl, inr, Bool, rules}
 use Rattle.std.specs.Prelude.{◌⊎◌, Result, Ok, Err}
 use Rattle.std.proofs.lemmas.List.{take-append-drop, append-nil, take-append-le, drop-append-le, length-map}
 use Rattle.std.proofs.Math.ListN.{drop_of_length-le}
 use Rattle.httparse.specs.Grammar.{ResponseHead, print_response, status_code}
-use Rattle.httparse.specs.Spans.{header_bytes, name_and_value}
 use Rattle.http_wire.specs.States.{SourceState, InputState, input_state}
 use Rattle.http_wire.specs.Reading.{Gave, HasEnded}
-use Rattle.http_wire.specs.Fronts.{HasNone, IsUnfinished, ReadsHead, responses}
+use Rattle.http_wire.specs.Fronts.{IsUnfinished, ReadsHead, responses}
 use Rattle.http_wire.proofs.Heads.HeadLemmas.{none_at_start}
 use Rattle.http_wire.proofs.Heads.HeadLaws.{response_ends}
 use Rattle.upload_client.specs.AnswerText.{max_answer, ReadsFramed, IsWhole, FindsAnswer, ReadsAnswer}
@@ -34,7 +33,6 @@ use Rattle.upload_client.specs.declared.heard.HeardFault.TheVariants as Fault
 use Rattle.http_wire.specs.declared.fault.InputFault.{InputFault}
 use Rattle.http_wire.specs.declared.fault.InputFault.TheVariants as Input
 use Rattle.http_wire.specs.declared.fault.BodyFault.{BodyFault}
-use Rattle.http_wire.specs.declared.fault.BodyFault.TheVariants as Body
 use Rattle.http_wire.proofs.GaveLemmas.{gives_both, gives_none}
 
 -- the head that the spans cover
@@ -46,9 +44,7 @@ drop_all n text le = drop_of_length-le (take n text) (omega (arith, length-take 
 
 front_printed : (text : List ℕ) (p : ParsedResponse) (f : IsHeadAtFront response_spans text p)
     → take p.spans.len text ≡ print_response (the_head f)
-front_printed text p f =
-    f.head.1.1.reads.1 ∙ ap (λ t. print_response (the_head f) ++ t) (drop_all p.spans.len text f.in_range)
-    ∙ append-nil (print_response (the_head f))
+front_printed text p f = cc (drop_all p.spans.len text f.in_range, append-nil (print_response (the_head f)))
 
 pub fields_same : (text : List ℕ) (p : ParsedResponse) (f : IsHeadAtFront response_spans text p)
     → fields_of response_spans (take p.spans.len text) p ≡ head_fields (the_head f).fields
@@ -56,36 +52,12 @@ fields_same text p f = f.head.1.1.fields
 
 pub head_reads : (text : List ℕ) (p : ParsedResponse) (f : IsHeadAtFront response_spans text p)
     → ReadsHead responses text (the_head f) (drop p.spans.len text)
-head_reads text p f =
-    let printed = front_printed text p f in
-    let len = f.head.1.1.len in
-    let short = f.short in
-    let lengths = ap length (fields_same text p f) in
-    let few = p.count_fits in
-    record {
-      reads =
-          (f.head.1.1.reads.0, sym (take-append-drop p.spans.len text) ∙ ap (λ t. t ++ drop p.spans.len text) printed);
-      short = omega (arith, len, short);
-      few = omega (
-        arith,
-        few,
-        lengths,
-        length-map (the_head f).fields name_and_value,
-        length-map (take p.spans.headers p.headers) (header_bytes (take p.spans.len text)),
-        length-take p.spans.headers p.headers,
-      );
-    }
+head_reads text p f = search (rules, arith, front_printed, fields_same, take-append-drop, length-map, length-take)
 
 -- a head at the front is there when more comes
 head_kept : (text more : List ℕ) (p : ParsedResponse) → IsHeadAtFront response_spans text p
     → IsHeadAtFront response_spans (text ++ more) p
-head_kept text more p f =
-    let fits = f.in_range in
-    record {
-      short = f.short;
-      in_range = omega (arith, fits, length-append text more);
-      head = subst (λ t. response_spans.IsHeadOf t p) (sym (take-append-le p.spans.len text more f.in_range)) f.head;
-    }
+head_kept text more p f = search (rules, arith, length-append, take-append-le)
 
 -- the framing of the head at the front
 framed : (h : Bool) (text : List ℕ) (p : ParsedResponse) (r : Result ResponseFraming FramingFault)
@@ -121,12 +93,7 @@ unframed h text new keep p Framing.TooLarge f e =
 -- behind a fault nothing is said of whether the connection stays
 any_keep : (h : Bool) (text : List ℕ) (new : InputState) (e : HeardFault) (keep other : Bool)
     → FindsAnswer h text new (Err e) keep → FindsAnswer h text new (Err e) other
-any_keep h text new Fault.Unreadable keep other x = x
-any_keep h text new Fault.TooLarge keep other x = x
-any_keep h text new Fault.Truncated keep other x = x
-any_keep h text new Fault.Read keep other x = x
-any_keep h text new Fault.NoMemory keep other x = x
-any_keep h text new Fault.Ended keep other x = x
+any_keep h text new e keep other x = search (rules, arith)
 
 pub found_at_once : (h : Bool) (known : InputState) (r : Result Heard HeardFault) (keep : Bool)
     → FindsAnswer h known.held known r keep → ReadsAnswer h known known r keep
@@ -141,22 +108,14 @@ body_found : (h : Bool) (text after body : List ℕ) (new : InputState) (keep : 
     (framing : ResponseFraming) (e : BodyFault) (f : IsHeadAtFront response_spans text p)
     → ReadsFramed h text (Ok framing) (the_head f) after → FindsBodyIn framing after body new (Err e)
     → FindsAnswer h text new (Err (heard_of_body e)) keep
-body_found h text after body new keep p (Length n) Body.Truncated f r b =
-    (b.1, inr (record { head = the_head f; rest = after; size = n; framed = r; cut = b.0 }))
-body_found h text after body new keep p (ToEnd most) Body.Truncated f r b = absurd b
-body_found h text after body new keep p (Length n) Body.Read f r b =
-    inr (inl (record { head = the_head f; rest = after; size = n; framed = r; cut = b }))
-body_found h text after body new keep p (ToEnd most) Body.Read f r b =
-    inr (inr (record { head = the_head f; rest = after; most = most; framed = r; small = b }))
-body_found h text after body new keep p framing Body.NoMemory f r b = tt
+body_found h text after body new keep p framing e f r b = search (rules, arith, framed)
 
 long_found : (h : Bool) (text after body : List ℕ) (new : InputState) (keep : Bool) (p : ParsedResponse)
     (framing : ResponseFraming) (f : IsHeadAtFront response_spans text p)
     → ReadsFramed h text (Ok framing) (the_head f) after → FindsBodyIn framing after body new (Ok TooLarge)
     → FindsAnswer h text new (Err Fault.TooLarge) keep
 long_found h text after body new keep p (Length n) f r b = absurd b
-long_found h text after body new keep p (ToEnd most) f r b =
-    inr (inr (record { head = the_head f; rest = after; most = most; framed = r; long = b }))
+long_found h text after body new keep p (ToEnd most) f r b = search (rules, arith, framed)
 
 -- what is heard by what a reply says
 abbrev pub heard_by : Result Heard SaidFault → Result Heard HeardFault
@@ -168,10 +127,8 @@ says_found : (h : Bool) (text : List ℕ) (new : InputState) (head : ResponseHea
     (r : Result Heard SaidFault) (keep : Bool)
     (whole : IsWhole h text new head body) → Says (status_code head) (head_fields head.fields) body r
     → keep ≡ keeps_on head.minor (head_fields head.fields) whole.framing → FindsAnswer h text new (heard_by r) keep
-says_found h text new head body (Ok heard) keep whole says keeps =
-    record { head = head; body = body; whole = whole; says = says; keeps = keeps }
-says_found h text new head body (Err Said.Unreadable) keep whole says keeps =
-    inr (inr (record { head = head; body = body; whole = whole; misplaced = says }))
+says_found h text new head body (Ok heard) keep whole says keeps = search (rules, arith)
+says_found h text new head body (Err Said.Unreadable) keep whole says keeps = search (rules, arith)
 says_found h text new head body (Err Said.NoMemory) keep whole says keeps = tt
 
 module _ (h : Bool) (held body : List ℕ) (old : SourceState) (new : InputState) (keep : Bool) (p : ParsedResponse)
@@ -195,23 +152,11 @@ module _ (h : Bool) (held body : List ℕ) (old : SourceState) (new : InputState
   pub body_fault_found : (e : BodyFault)
       → FindsResponseBody framing (input_state (drop p.spans.len held) old) new body (Err e)
       → ReadsAnswer h (input_state held old) new (Err (heard_of_body e)) keep
-  body_fault_found e b = record {
-    given = b.gave.given;
-    gives = b.gave.gives;
-    found =
-        body_found h (held ++ b.gave.given) b.text body new keep p framing e (head_kept held b.gave.given p f)
-        (framed_on b.gave.given b.text b.gave.joined) b.found;
-  }
+  body_fault_found e b = search (rules, arith, body_found, head_kept, framed_on)
 
   pub long_body_found : FindsResponseBody framing (input_state (drop p.spans.len held) old) new body (Ok TooLarge)
       → ReadsAnswer h (input_state held old) new (Err Fault.TooLarge) keep
-  long_body_found b = record {
-    given = b.gave.given;
-    gives = b.gave.gives;
-    found =
-        long_found h (held ++ b.gave.given) b.text body new keep p framing (head_kept held b.gave.given p f)
-        (framed_on b.gave.given b.text b.gave.joined) b.found;
-  }
+  long_body_found b = search (rules, arith, long_found, head_kept, framed_on)
 
   pub reply_found : (r : Result Heard SaidFault)
       → FindsResponseBody framing (input_state (drop p.spans.len held) old) new body (Ok Whole)
@@ -249,18 +194,14 @@ framing_at : (h : Bool) (held slice : List ℕ) (p : ParsedResponse) (r : Result
     → slice ≡ held
     → r ≡ response_framing_of max_answer h p.spans.code (fields_of response_spans (take p.spans.len slice) p)
     → r ≡ response_framing_of max_answer h p.spans.code (fields_of response_spans (take p.spans.len held) p)
-framing_at h held slice p r slice_is is =
-    subst (λ t. r ≡ response_framing_of max_answer h p.spans.code (fields_of response_spans (take p.spans.len t) p))
-    slice_is is
+framing_at h held slice p r slice_is is = cc
 
 -- a refused framing of the head
 pub framing_refused : (h : Bool) (slice : List ℕ) (known : InputState) (p : ParsedResponse) (e : FramingFault)
     → IsHeadAtFront response_spans known.held p → slice ≡ known.held
     → Err e ≡ response_framing_of max_answer h p.spans.code (fields_of response_spans (take p.spans.len slice) p)
     → FindsReply h known known (Err (heard_of_framing e))
-framing_refused h slice known p e f slice_is is = λ keep.
-    found_at_once h known (Err (heard_of_framing e)) keep
-    (unframed h known.held known keep p e f (sym (framing_at h known.held slice p (Err e) slice_is is)))
+framing_refused h slice known p e f slice_is is = search (rules, arith, found_at_once, unframed, framing_at)
 
 -- a fault of the body behind the head
 pub fault_behind : (h : Bool) (held slice front body : List ℕ) (old : SourceState) (new : InputState)
@@ -327,13 +268,7 @@ unheard_behind h held slice front body seen old new p framing e f slice_is is fr
 -- reads before it
 pub reads_after : (h : Bool) (old mid new : InputState) (r : Result Heard HeardFault) (keep : Bool)
     → Gave old mid.source mid.held → ReadsAnswer h mid new r keep → ReadsAnswer h old new r keep
-reads_after h old mid new r keep gave next = record {
-  given = gave.given ++ next.given;
-  gives = gives_both old.source mid.source new.source gave.given next.given gave.gives next.gives;
-  found =
-      subst (λ t. FindsAnswer h t new r keep)
-      (ap (λ t. t ++ next.given) gave.joined ∙ append_assoc old.held gave.given next.given) next.found;
-}
+reads_after h old mid new r keep gave next = search (rules, arith, gives_both, append_assoc)
 
 pub finds_after : (h : Bool) (old mid new : InputState) (r : Result ReplyRead HeardFault)
     → Gave old mid.source mid.held → FindsReply h mid new r → FindsReply h old new r
@@ -343,20 +278,12 @@ finds_after h old mid new (Err e) gave next = λ keep. reads_after h old mid new
 -- a fault in what was read
 pub found_after : (h : Bool) (old new : InputState) (e : HeardFault) → Gave old new.source new.held
     → ((keep : Bool) → FindsAnswer h new.held new (Err e) keep) → FindsReply h old new (Err e)
-found_after h old new e gave found = λ keep.
-    record {
-      given = gave.given;
-      gives = gave.gives;
-      found = subst (λ t. FindsAnswer h t new (Err e) keep) gave.joined (found keep);
-    }
+found_after h old new e gave found = search (rules, arith)
 
 -- there is no head in no byte
 pub unfinished : (text : List ℕ) → (text ≡ []) ⊎ ((0 < length text) × IsUnfinished responses text)
     → IsUnfinished responses text
-unfinished text (inl e) = record {
-  short = let l = ap length e in omega (arith, l);
-  none = subst (HasNone responses) (sym e) (none_at_start responses response_ends);
-}
+unfinished text (inl e) = grind (arith, none_at_start responses response_ends)
 unfinished text (inr u) = u.1
 
 -- a fault of the head

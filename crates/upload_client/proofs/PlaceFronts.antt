@@ -1,6 +1,7 @@
 -- What stands behind a prefix of a text.
-use Rattle.std.proofs.Common.{◌≡◌, ◌≢◌, ℕ, Bool, true, false, List, ◌++◌, length, drop, refl, sym, ap, ◌∙◌}
-use Rattle.std.proofs.Common.{append_assoc, if◌then◌else◌}
+use Rattle.std.proofs.lemmas.Grind.{common_steps}
+use Rattle.std.proofs.Common.{◌≡◌, ◌≢◌, ℕ, Bool, true, false, List, ◌++◌, length, drop, refl, ◌∙◌, arith}
+use Rattle.std.proofs.Common.{append_assoc, if◌then◌else◌, rules}
 use Rattle.std.specs.Prelude.{Option, Some, None, option_and_then, nat_eq}
 use Rattle.std.specs.List.{starts_with}
 use Rattle.std.proofs.lemmas.Bool.{false≢true}
@@ -23,26 +24,17 @@ pub after_front_is : (front text : List ℕ) → IsAfter front text (after_front
 after_front_is front text = decided front text (starts_with nat_eq text front) refl
 
 pub IsAfter-unique : (front text : List ℕ) (o p : Option (List ℕ)) → IsAfter front text o → IsAfter front text p → o ≡ p
-IsAfter-unique front text None None h k = refl
-IsAfter-unique front text None (Some rest) h k = absurd (h rest k)
-IsAfter-unique front text (Some rest) None h k = absurd (k rest h)
-IsAfter-unique front text (Some rest) (Some other) h k = ap Some (append_cancel_left front rest other (sym h ∙ k))
+IsAfter-unique front text o p h k = search (rules, arith, append_cancel_left)
 
 then_after : (a b text : List ℕ) (m : Option (List ℕ)) → IsAfter a text m
     → IsAfter (a ++ b) text (option_and_then (after_front b) m)
 then_after a b text None h = λ rest cut. h (b ++ rest) (cut ∙ append_assoc a b rest)
-then_after a b text (Some m) h = go (after_front b m) (after_front_is b m) where
-  go : (o : Option (List ℕ)) → IsAfter b m o → IsAfter (a ++ b) text o
-  go None k = λ rest cut. k rest (append_cancel_left a m (b ++ rest) (sym h ∙ cut ∙ append_assoc a b rest))
-  go (Some rest) k = h ∙ ap (λ t. a ++ t) k ∙ sym (append_assoc a b rest)
+then_after a b text (Some m) h = search (rules, arith, after_front_is, append_cancel_left, append_assoc)
 
 -- a prefix of two parts is taken one part after the other
 pub after_front-append : (a b text : List ℕ)
     → after_front (a ++ b) text ≡ option_and_then (after_front b) (after_front a text)
-after_front-append a b text =
-    IsAfter-unique (a ++ b) text _ _ (after_front_is (a ++ b) text)
-    (then_after a b text (after_front a text) (after_front_is a text))
+after_front-append a b text = search (rules, arith, IsAfter-unique, after_front_is, then_after)
 
 pub after_front-front : (front rest : List ℕ) → after_front front (front ++ rest) ≡ Some rest
-after_front-front front rest =
-    IsAfter-unique front (front ++ rest) _ (Some rest) (after_front_is front (front ++ rest)) refl
+after_front-front front rest = grind (arith, common_steps, IsAfter-unique, after_front_is)

@@ -1,6 +1,6 @@
 -- The reference in a path, part by part.
-use Rattle.std.proofs.Common.{◌≡◌, ℕ, List, [], ◌++◌, codes, refl, sym, ap, ◌∙◌, append_assoc}
-use Rattle.std.specs.Prelude.{Option, Some, None, option_and_then}
+use Rattle.std.proofs.Common.{◌≡◌, ℕ, List, [], ◌++◌, codes, ap, ◌∙◌, append_assoc, arith, rules}
+use Rattle.std.specs.Prelude.{Option, option_and_then}
 use Rattle.std.proofs.lemmas.List.{append-nil}
 use Rattle.upload_names.specs.Reference.{reference_of, reference_text}
 use Rattle.upload_names.proofs.ReferenceFacts.{reference_of-text}
@@ -13,21 +13,7 @@ pub read_steps : (path name : List ℕ) (named kind reference : Option (List ℕ
     → reference ≡ option_and_then (after_front (codes "/blobs/uploads/")) kind
     → option_and_then reference_of reference ≡ place_in path name
 unfolding place_in
-read_steps path name named kind reference e f g =
-    let uploads = codes "/blobs/uploads/" in
-    let whole : after_front (upload_path name []) path ≡ option_and_then (after_front (name ++ uploads)) named =
-    ap (λ t. after_front (codes "/v2/" ++ (name ++ t)) path) (append-nil uploads)
-    ∙ after_front-append (codes "/v2/") (name ++ uploads) path
-    ∙ ap (option_and_then (after_front (name ++ uploads))) (sym e) in
-    let parts : option_and_then (after_front (name ++ uploads)) named
-    ≡ option_and_then (after_front uploads) (option_and_then (after_front name) named) =
-    go named in
-    sym (ap (option_and_then reference_of) (whole ∙ parts ∙ ap (option_and_then (after_front uploads)) (sym f) ∙ sym g))
-  where
-    go : (o : Option (List ℕ)) → option_and_then (after_front (name ++ codes "/blobs/uploads/")) o
-        ≡ option_and_then (after_front (codes "/blobs/uploads/")) (option_and_then (after_front name) o)
-    go None = refl
-    go (Some x) = after_front-append name (codes "/blobs/uploads/") x
+read_steps path name named kind reference e f g = search (rules, arith, append-nil, after_front-append)
 
 -- a written place is read as its reference
 pub places_read_back : PlacesAreReadBack

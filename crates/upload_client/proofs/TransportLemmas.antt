@@ -1,12 +1,12 @@
 -- One ask of a transport over a wire, from what its two halves say.
-use Rattle.std.proofs.Common.{◌≡◌, List, ℕ, Bool, subst, sym, ap, ◌∙◌, length}
-use Rattle.std.specs.Prelude.{IsTrue, OnOk, Option, Result, Ok, Err, ⊤, true, false, not, ◌==◌}
+use Rattle.std.proofs.Common.{◌≡◌, List, ℕ, Bool, subst, sym, ap, ◌∙◌, length, arith, rules}
+use Rattle.std.specs.Prelude.{IsTrue, OnOk, Option, Result, ⊤, true, not, ◌==◌}
 use Rattle.upload_service.specs.declared.ask.Ask.{Ask}
 use Rattle.http_wire.specs.States.{SinkState}
 use Rattle.http_wire.specs.Writing.{Wrote}
 use Rattle.upload_client.specs.AskText.{ask_text, message_of, wants_head}
 use Rattle.upload_client.specs.TransportText.{AsksOverWire, AsksWhere, HearsBehind, WireState, awaited, has_body}
-use Rattle.upload_client.specs.TransportText.{ReadsReply, stays_open}
+use Rattle.upload_client.specs.TransportText.{stays_open}
 use Rattle.upload_client.specs.declared.heard.Heard.{Heard}
 use Rattle.http_wire.specs.declared.writing.WriteFault.{WriteFault}
 
@@ -14,11 +14,7 @@ use Rattle.http_wire.specs.declared.writing.WriteFault.{WriteFault}
 hears_same : (written : Result ⊤ WriteFault) (body head : Bool) (old mid new : WireState) (heard : Option Heard)
     → mid.reader ≡ old.reader → HearsBehind (awaited written body) head mid heard new
     → HearsBehind (awaited written body) head old heard new
-hears_same (Ok u) body head old mid new heard same h =
-    (h.0, subst (λ r. ReadsReply head r h.0 new.reader) same h.1, h.2, h.3)
-hears_same (Err fault) true head old mid new heard same h =
-    (h.0, subst (λ r. ReadsReply head r h.0 new.reader) same h.1, h.2, h.3)
-hears_same (Err fault) false head old mid new heard same h = (h.0, h.1 ∙ same, h.2)
+hears_same written body head old mid new heard same h = search (rules, arith)
 
 -- a request that was written and what was heard behind it, if the host and the body were sliced
 pub exchanges : (old mid between new : WireState) (ask : Ask) (host body : List ℕ) (goes empty head : Bool)

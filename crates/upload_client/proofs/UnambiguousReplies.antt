@@ -1,6 +1,6 @@
 -- A text begins with at most one reply.
 use Rattle.std.proofs.Common.{◌≡◌, ◌≢◌, ℕ, ◌<◌, ◌≤◌, Bool, List, [], ◌++◌, length, refl, sym, ap, subst, subst₂, ◌∙◌}
-use Rattle.std.proofs.Common.{arith, append-nil, length-append, inl, inr}
+use Rattle.std.proofs.Common.{arith, append-nil, length-append, inl, inr, rules}
 use Rattle.std.specs.Prelude.{◌⊎◌, Option, Some, None, Result, Ok, Err}
 use Rattle.httparse.specs.Grammar.{ResponseHead, status_code}
 use Rattle.http_wire.specs.Fronts.{responses}
@@ -59,12 +59,9 @@ Says h framing body rest p =
 says_one : (h : ResponseHead) (framing : ResponseFraming) (body rest : List ℕ) (p q : ReplyParse)
     → Says h framing body rest p → Says h framing body rest q → p ≡ q
 says_one h framing body rest p q (inl x) (inl y) =
-    let same = heard_unique (status_code h) (head_fields h.fields) body x.0 y.0 x.1 y.1 in
-    x.2 ∙ ap (λ a. heard a (keeps_on h.minor (head_fields h.fields) framing) rest) same ∙ sym y.2
-says_one h framing body rest p q (inl x) (inr y) =
-    absurd (heard_not_misplaced _ (head_fields h.fields) body x.0 x.1 y.0)
-says_one h framing body rest p q (inr x) (inl y) =
-    absurd (heard_not_misplaced _ (head_fields h.fields) body y.0 y.1 x.0)
+    cc (heard_unique (status_code h) (head_fields h.fields) body x.0 y.0 x.1 y.1)
+says_one h framing body rest p q (inl x) (inr y) = search (rules, arith, heard_not_misplaced)
+says_one h framing body rest p q (inr x) (inl y) = search (rules, arith, heard_not_misplaced)
 says_one h framing body rest p q (inr x) (inr y) = x.1 ∙ sym y.1
 
 -- ---- what stands behind a head
@@ -95,16 +92,8 @@ FromHead head_only unfinished p = p ≡ cut
 from_sized : (n : ℕ) (h : ResponseHead) (behind : List ℕ) (p q : ReplyParse) → FromSized n h behind p
     → FromSized n h behind q → p ≡ q
 from_sized n h behind p q (inl x) (inl y) = x.1 ∙ sym y.1
-from_sized n h behind p q (inl x) (inr y) =
-    let short = x.0 in
-    let all = ap length y.2 in
-    let long = y.3 in
-    absurd (omega (arith, short, all, long, length-append y.0 y.1))
-from_sized n h behind p q (inr x) (inl y) =
-    let short = y.0 in
-    let all = ap length x.2 in
-    let long = x.3 in
-    absurd (omega (arith, short, all, long, length-append x.0 x.1))
+from_sized n h behind p q (inl x) (inr y) = search (rules, arith, length-append)
+from_sized n h behind p q (inr x) (inl y) = search (rules, arith, length-append)
 from_sized n h behind p q (inr x) (inr y) =
     let same = same_front x.0 y.0 x.1 y.1 (x.3 ∙ sym y.3) (sym x.2 ∙ y.2) in
     says_one h (Length n) y.0 y.1 p q (subst₂ (λ body rest. Says h (Length n) body rest p) same.0 same.1 x.4) y.4
@@ -119,10 +108,7 @@ from_end most h behind p q (inr x) (inr y) = says_one h (ToEnd most) behind [] p
 from_fault : (fault : FramingFault) (p q : ReplyParse)
     → ((fault ≡ Fault.Unreadable) × (p ≡ unreadable)) ⊎ ((fault ≡ Fault.TooLarge) × (p ≡ too_large))
     → ((fault ≡ Fault.Unreadable) × (q ≡ unreadable)) ⊎ ((fault ≡ Fault.TooLarge) × (q ≡ too_large)) → p ≡ q
-from_fault fault p q (inl x) (inl y) = x.1 ∙ sym y.1
-from_fault fault p q (inl x) (inr y) = let one = x.0 in let two = y.0 in absurd (cc)
-from_fault fault p q (inr x) (inl y) = let one = x.0 in let two = y.0 in absurd (cc)
-from_fault fault p q (inr x) (inr y) = x.1 ∙ sym y.1
+from_fault fault p q h h1 = search (rules, arith)
 
 from_framing : (h : ResponseHead) (framing : Result ResponseFraming FramingFault) (behind : List ℕ) (p q : ReplyParse)
     → FromFraming h framing behind p → FromFraming h framing behind q → p ≡ q
@@ -132,10 +118,7 @@ from_framing h (Err fault) behind p q x y = from_fault fault p q x y
 
 from_head : (head_only : Bool) (front : HeadParse responses) (p q : ReplyParse) → FromHead head_only front p
     → FromHead head_only front q → p ≡ q
-from_head head_only (head h behind) p q x y =
-    from_framing h (response_framing_of max_answer head_only (status_code h) (head_fields h.fields)) behind p q x y
-from_head head_only long p q x y = x ∙ sym y
-from_head head_only unfinished p q x y = x ∙ sym y
+from_head head_only front p q x y = search (rules, arith, from_framing)
 
 -- ---- the whole
 
@@ -148,11 +131,7 @@ record Parsed (head_only : Bool) (text : List ℕ) (p : ReplyParse) : Type 0 whe
 from_body : (h : ResponseHead) (framing : ResponseFraming) (body : List ℕ) (new : InputState) (p : ReplyParse)
     → IsBody framing body new → Says h framing body new.held p → FromFraming h (Ok framing) (body ++ new.held) p
 from_body h (Length n) body new p is says = inr (body, new.held, refl, is, says)
-from_body h (ToEnd most) body new p is says =
-    let all : body ≡ body ++ new.held = sym (ap (λ r. body ++ r) is.1 ∙ append-nil body) in
-    let long = ap length all in
-    let small = is.0 in
-    inr (omega (arith, long, small), subst₂ (λ b r. Says h (ToEnd most) b r p) all is.1 says)
+from_body h (ToEnd most) body new p is says = search (rules, arith, append-nil)
 
 parsed_whole : (head_only : Bool) (text : List ℕ) (new : InputState) (h : ResponseHead) (body : List ℕ)
     (p : ReplyParse)

@@ -6,7 +6,7 @@ use Rattle.upload_client.proofs.heard.read_place.Goals as goal
 
 pub returns-in_err-named : goal.returns-in_err-named
 returns-in_err-named c =
-    c.from_residual.ensures ∙ read_steps c.args.path.now c.args.name.now None None None c.in_err-named.ensures refl refl
+    cc (read_steps c.args.path.now c.args.name.now None None None c.in_err-named.ensures refl refl)
 
 pub returns-in_err-kind : goal.returns-in_err-kind
 returns-in_err-kind c =
