@@ -1,6 +1,6 @@
 -- What one seat's steps are, once all ends are back.
-use Rattle.std.proofs.Common.{◌≡◌, ℕ, ◌==◌, Bool, true, false, List, [], ◌∷◌, ◌++◌, map, filter, cond, sym, refl, ap}
-use Rattle.std.proofs.Common.{◌∙◌, inl, inr, ⊎_elim, append-nil}
+use Rattle.std.proofs.Common.{◌≡◌, ℕ, Bool, true, false, List, [], ◌∷◌, ◌++◌, map, cond, sym, refl, ap}
+use Rattle.std.proofs.Common.{◌∙◌, inl, inr, ⊎_elim, append-nil, arith, rules}
 use Rattle.std.proofs.lemmas.List.{append_cancel_right}
 use Rattle.upload_service.specs.declared.ask.Ask.{Ask}
 use Rattle.upload_service.specs.declared.answer.Answer.{Answer}
@@ -20,9 +20,7 @@ by_side false s jobs steps e = e
 
 asks_of_jobs : (seat : ℕ) (steps : List Step) → asks_in (jobs_of seat (taken_by steps)) ≡ asks (of_seat seat steps)
 asks_of_jobs seat [] = refl
-asks_of_jobs seat (s ∷ ss) =
-    by_side (seat == s.seat) s (filter (λ (j : TakenJob). seat == j.seat) (taken_by ss)) (of_seat seat ss)
-    (asks_of_jobs seat ss)
+asks_of_jobs seat (s ∷ ss) = search (rules, arith, by_side, asks_of_jobs seat ss)
 
 -- steps that ask what these exchanges ask, and then more, and are answered as they are, and then more
 record Matches (steps : List Step) (xs : List WireExchange) (us : List Ask) : Type 0 where
@@ -44,14 +42,7 @@ matched : (steps : List Step) (xs : List WireExchange) (us : List Ask) (vs : Lis
     → Matches steps xs us
 matched steps [] us vs p q = record { unheard = steps; in_order = refl; lost = p }
 matched [] (x ∷ xs) us vs p q = absurd (never_empty x.ask (asks_of xs ++ us) p)
-matched (s ∷ ss) (x ∷ xs) us vs p q =
-    let rest : List Answer = map (λ (s : Step). s.exchange.answer) ss in
-    let ask : s.exchange.ask ≡ x.ask = heads s.exchange.ask x.ask (asks ss) (asks_of xs ++ us) p in
-    let answer : s.exchange.answer ≡ x.answer = heads s.exchange.answer x.answer rest (answers_of xs ++ vs) q in
-    let more =
-    matched ss xs us vs (tails s.exchange.ask x.ask (asks ss) (asks_of xs ++ us) p)
-    (tails s.exchange.answer x.answer rest (answers_of xs ++ vs) q) in
-    record { unheard = more.unheard; in_order = λ i. (ask i, answer i) ∷ more.in_order i; lost = more.lost }
+matched (s ∷ ss) (x ∷ xs) us vs p q = search (rules, arith, heads, tails, matched ss xs us vs)
 
 pub carries : (seat : ℕ) (steps : List Step) (old new : SeatState) (xs : List WireExchange) (us : List Ask)
     → IsFresh old → Adds old new xs us → jobs_of seat (taken_by steps) ≡ new.sent → Heard seat steps new

@@ -1,11 +1,9 @@
 -- What changed nothing can be left out of a run.
-use Rattle.std.proofs.Common.{◌≡◌, ℕ, ◌≤◌, Bool, true, false, true≢false, List, [], ◌∷◌}
-use Rattle.std.proofs.Common.{refl, sym, ap, ◌∙◌, subst, arith, ⊎_elim}
-use Rattle.std.specs.Prelude.{if◌then◌else◌}
+use Rattle.std.proofs.Common.{◌≡◌, ℕ, ◌≤◌, true, false, List, [], ◌∷◌, rules}
+use Rattle.std.proofs.Common.{refl, subst, arith}
 use Rattle.upload_service.specs.declared.ask.Ask.{Ask}
 use Rattle.upload_service.specs.declared.answer.Answer.{Answer}
 use Rattle.upload_service.specs.Machine.{State, Outcome, Turn, Comes, outcome}
-use Rattle.upload_service.specs.Machine.Outcome.{Replies, Begins, Takes, Commits, Stores, Mounts}
 use Rattle.upload_service.specs.Run.{Exchange, Run, NeverBefore}
 use Rattle.upload_intake.specs.Log.{last_moment}
 use Rattle.upload_intake.specs.Safety.{changes, changed}
@@ -14,17 +12,7 @@ use Rattle.upload_intake.proofs.LineMoves.{is_either}
 -- an answer that tells of no change leaves the service as it was
 comes_still : (old : State) (now : ℕ) (o : Outcome) (answer : Answer) (new : State) → Comes old now o answer new
     → changes answer ≡ false → new ≡ old
-comes_still old now (Replies a) answer new c e = ⊎_elim (λ r. r.1) (λ r. r.2) c
-comes_still old now (Begins name at) answer new c e =
-    ⊎_elim (λ r. absurd (true≢false (sym (ap changes r.0) ∙ e))) (λ r. r.2) c
-comes_still old now (Takes name at received) answer new c e =
-    ⊎_elim (λ r. absurd (true≢false (sym (ap changes r.0) ∙ e))) (λ r. r.2) c
-comes_still old now (Commits name at digest blob) answer new c e =
-    ⊎_elim (λ r. absurd (true≢false (sym (ap changes r.0) ∙ e))) (λ r. r.2) c
-comes_still old now (Stores name digest blob) answer new c e =
-    ⊎_elim (λ r. absurd (true≢false (sym (ap changes r.0) ∙ e))) (λ r. r.2) c
-comes_still old now (Mounts name digest) answer new c e =
-    ⊎_elim (λ r. absurd (true≢false (sym (ap changes r.0) ∙ e))) (λ r. r.2) c
+comes_still old now o answer new c e = search (rules, arith)
 
 pub turn_still : (old : State) (ask : Ask) (secret : List ℕ) (now : ℕ) (answer : Answer) (new : State)
     → Turn old ask secret now answer new → changes answer ≡ false → new ≡ old
@@ -35,9 +23,7 @@ turn_still old ask secret now answer new t e = comes_still old now (outcome old 
 pub by_first : (P : List Exchange → Type 0) (x : Exchange) (xs : List Exchange)
     → (changes x.answer ≡ true → P (x ∷ changed xs)) → (changes x.answer ≡ false → P (changed xs))
     → P (changed (x ∷ xs))
-by_first P x xs some none =
-    let Q : Bool → Type 0 = λ b. P (if b then x ∷ changed xs else changed xs) in
-    ⊎_elim (λ e. subst Q (sym e) (some e)) (λ e. subst Q (sym e) (none e)) (is_either (changes x.answer))
+by_first P x xs some none = search (rules, arith, is_either)
 
 pub leaves_out : (old : State) (xs : List Exchange) (new : State) → Run old xs new → Run old (changed xs) new
 leaves_out old [] new r = r
@@ -48,11 +34,7 @@ leaves_out old (x ∷ xs) new r =
 
 pub changed_twice : (xs : List Exchange) → changed (changed xs) ≡ changed xs
 changed_twice [] = refl
-changed_twice (x ∷ xs) =
-    by_first (λ ys. changed ys ≡ ys) x xs
-    (λ some. ap (λ (b : Bool). if b then x ∷ changed (changed xs) else changed (changed xs)) some
-    ∙ ap (λ l. x ∷ l) (changed_twice xs))
-    (λ none. changed_twice xs)
+changed_twice (x ∷ xs) = search (rules, arith, by_first, changed_twice xs)
 
 -- an earlier moment before the first exchange
 sooner : (a b : ℕ) (xs : List Exchange) → a ≤ b → NeverBefore b xs → NeverBefore a xs
@@ -67,10 +49,4 @@ pub moments_of_changes : (moment : ℕ) (xs : List Exchange) → NeverBefore mom
     → NeverBefore moment (changed xs) × (last_moment moment (changed xs) ≤ last_moment moment xs)
 moments_of_changes moment [] h = (tt, omega arith)
 moments_of_changes moment (x ∷ xs) h =
-    let rest = moments_of_changes x.now xs h.1 in
-    let P : List Exchange → Type 0 = λ ys. NeverBefore moment ys × (last_moment moment ys ≤ last_moment x.now xs) in
-    by_first P x xs (λ some. ((h.0, rest.0), rest.1))
-    (λ none. (
-      sooner moment x.now (changed xs) h.0 rest.0,
-      (let a = last_moment-from moment x.now (changed xs) h.0 in omega (arith, rest.1)),
-    ))
+    search (rules, arith, by_first, sooner, last_moment-from, moments_of_changes x.now xs h.1)

@@ -1,10 +1,9 @@
 -- What each move of a desk keeps, a whole conversation keeps.
-use Rattle.std.proofs.Common.{◌≡◌, ℕ, List, [], ◌∷◌, Option, Some, None, Result, Ok, Err, sym, refl, ap, ◌∙◌, subst}
-use Rattle.std.proofs.Common.{length, ⊎_elim}
+use Rattle.std.proofs.Common.{◌≡◌, ℕ, List, [], ◌∷◌, Option, Some, None, Result, Ok, Err, sym, refl, ◌∙◌, subst}
+use Rattle.std.proofs.Common.{arith, rules}
 use Rattle.upload_service.specs.declared.ask.Ask.{Ask}
 use Rattle.upload_service.specs.declared.answer.Answer.{Answer}
 use Rattle.upload_intake.specs.declared.gone.Gone.{Gone}
-use Rattle.upload_intake.specs.declared.gone.Gone.TheVariants.{NotSent, NoAnswer}
 use Rattle.upload_intake.specs.Seats.{SeatState, Asks, IsSameSeat}
 use Rattle.upload_intake.specs.SeatMoves.{AsksWithDrawn}
 use Rattle.upload_intake.specs.Desks.{seat_of, secrets_of}
@@ -12,10 +11,7 @@ use Rattle.upload_intake.specs.Notices.{Watching}
 use Rattle.upload_intake.specs.Watched.{GateAt, WatchesOne}
 use Rattle.upload_intake.specs.declared.desk.GatedDesk.{GatedDesk}
 use Rattle.upload_wire.specs.declared.connection.ConnEnd.{ConnEnd}
-use Rattle.upload_wire.specs.declared.connection.ConnEnd.TheVariants.{Clean, AfterClose, AfterBad, TooMany, DeskGone}
-use Rattle.upload_wire.specs.declared.connection.ConnEnd.TheVariants.{Fault}
-use Rattle.upload_wire.specs.declared.connection.ConnFault.TheVariants as Conn
-use Rattle.upload_wire.specs.Conversation.{Moves, WireExchange, Answers, ConnectionState, Standing, stand, EndsWith}
+use Rattle.upload_wire.specs.Conversation.{Moves, WireExchange, Answers, ConnectionState, Standing, EndsWith}
 use Rattle.upload_wire.specs.Conversation.{IsConversation}
 
 module _ {D : Type 0} (step : Moves D) (Keeps : D → D → Type 0) (same : (d : D) → Keeps d d)
@@ -30,31 +26,16 @@ module _ {D : Type 0} (step : Moves D) (Keeps : D → D → Type 0) (same : (d :
 
   by_end : (max_body : ℕ) (s : Standing D) (new : ConnectionState D) (end : ConnEnd)
       → EndsWith step max_body s new end → Keeps s.desk new.desk
-  by_end max_body s new Clean e = unmoved s.desk new.desk e.2.unasked
-  by_end max_body s new AfterClose e = each s.desk e.0.ask (Some e.0.answer) new.desk e.1.answered
-  by_end max_body s new AfterBad e = unmoved s.desk new.desk e.1.unasked
-  by_end max_body s new TooMany e = each s.desk e.0.ask (Some e.0.answer) new.desk e.1.answered
-  by_end max_body s new DeskGone e = each s.desk e.0.ask None new.desk e.0.gone
-  by_end max_body s new (Fault (Conn.Wire fault)) e = unmoved s.desk new.desk e.1.unasked
-  by_end max_body s new (Fault Conn.Write) e =
-      ⊎_elim (λ h. each s.desk h.0.ask (Some h.0.answer) new.desk h.1.answered)
-      (λ h. unmoved s.desk new.desk h.1.unasked) e
+  by_end max_body s new end e = search (rules, arith, unmoved)
 
   pub kept_by : (max_body : ℕ) (old new : ConnectionState D) (end : ConnEnd)
       → IsConversation step max_body old new end → Keeps old.desk new.desk
-  kept_by max_body old new end c =
-      joined old.desk c.at new.desk (by_answers c.exchanges old.desk c.at c.served.answered)
-      (by_end max_body (stand (length c.exchanges) c.rest c.at c.mid) new end c.ended)
+  kept_by max_body old new end c = search (rules, arith, by_answers, by_end)
 
 -- a call of a seat leaves its lines and its number
 asks_same : (old : SeatState) (ask : Ask) (secret : List ℕ) (result : Result Answer Gone) (new : SeatState)
     → Asks old ask secret result new → IsSameSeat old new
-asks_same old ask secret (Ok answer) new a =
-    record { jobs = ap (λ s. s.jobs) a.1; replies = ap (λ s. s.replies) a.1; seat = ap (λ s. s.seat) a.1 }
-asks_same old ask secret (Err (NotSent back)) new a =
-    record { jobs = ap (λ s. s.jobs) a.1; replies = ap (λ s. s.replies) a.1; seat = ap (λ s. s.seat) a.1 }
-asks_same old ask secret (Err NoAnswer) new a =
-    record { jobs = ap (λ s. s.jobs) a.1; replies = ap (λ s. s.replies) a.1; seat = ap (λ s. s.seat) a.1 }
+asks_same old ask secret result new a = search (rules, arith)
 
 pub drawn_same : {S : Type 0} (draws : S → List ℕ → S → Type 0) (old : SeatState × S) (ask : Ask)
     (answer : Option Answer) (new : SeatState × S) → AsksWithDrawn draws old ask answer new → IsSameSeat old.0 new.0

@@ -1,6 +1,6 @@
 -- What a keeper keeps, from one message to the next.
 use Rattle.std.proofs.Common.{◌≡◌, ℕ, ◌+◌, ◌<◌, ◌≤◌, ◌==◌, min, max, Bool, true, false, true≢false, cond, List, [], ◌∷◌}
-use Rattle.std.proofs.Common.{◌++◌, map, filter, length-append, sym, refl, ap, ◌∙◌, subst, arith, append-nil}
+use Rattle.std.proofs.Common.{◌++◌, map, length-append, sym, refl, ap, ◌∙◌, subst, arith, append-nil, rules}
 use Rattle.std.proofs.Common.{append_assoc, Result, Ok, Err, MatchResult, get_or, set, leb, length, ⊎_elim}
 use Rattle.std.specs.List.{AllByRecursion}
 use Rattle.std.proofs.lemmas.List.{length-set, get_or-set_same, get_or-set_other}
@@ -19,12 +19,12 @@ use Rattle.upload_intake.specs.declared.message.Message.{Message}
 use Rattle.upload_intake.specs.declared.message.Wish.{Wish}
 use Rattle.upload_intake.specs.declared.message.Message.TheVariants as message
 use Rattle.upload_intake.specs.Line.{items_of, with_sent, with_taken, IsOfAnother}
-use Rattle.upload_intake.specs.Log.{TakenJob, Step, step_of, steps_of, exchanges_of, job_of, taken_by, answers_to}
+use Rattle.upload_intake.specs.Log.{TakenJob, Step, step_of, steps_of, exchanges_of, taken_by, answers_to}
 use Rattle.upload_intake.specs.Log.{last_moment}
 use Rattle.upload_intake.specs.declared.reply.ReplyLine.{ReplyLine}
 use Rattle.upload_intake.specs.Pools.Served.{KeeperState, IsSameKeeper, IsServed}
 use Rattle.upload_intake.specs.Told.{Told, Grows}
-use Rattle.upload_intake.specs.Typed.{AllTyped, AreTyped, IsTyped}
+use Rattle.upload_intake.specs.Typed.{AreTyped}
 use Rattle.upload_intake.specs.declared.log.Entry.{Entry}
 use Rattle.upload_intake.specs.Pools.Settled.{count_limit}
 use Rattle.upload_intake.specs.Kept.{taken_in, add_job, has_finish}
@@ -52,14 +52,11 @@ last_moment-more moment [] x = refl
 last_moment-more moment (y ∷ ys) x = last_moment-more y.now ys x
 
 add_job-append : (seat : ℕ) (m : Message) (xs ys : List TakenJob) → add_job seat m (xs ++ ys) ≡ add_job seat m xs ++ ys
-add_job-append seat (message.Job request secret) xs ys = refl
-add_job-append seat (message.Wish wish) xs ys = refl
-add_job-append seat message.Finish xs ys = refl
+add_job-append seat m xs ys = search (rules, arith)
 
 pub taken_in-append : (xs ys : List (Item Message)) → taken_in (xs ++ ys) ≡ taken_in xs ++ taken_in ys
 taken_in-append [] ys = refl
-taken_in-append (x ∷ xs) ys =
-    ap (add_job x.seat x.what) (taken_in-append xs ys) ∙ add_job-append x.seat x.what (taken_in xs) (taken_in ys)
+taken_in-append (x ∷ xs) ys = cc (add_job-append x.seat x.what (taken_in xs) (taken_in ys), taken_in-append xs ys)
 
 pub exchanges_of-more : (steps : List Step) (s : Step)
     → exchanges_of (steps ++ s ∷ []) ≡ exchanges_of steps ++ s.exchange ∷ []
@@ -67,10 +64,7 @@ exchanges_of-more steps s = map-append (λ (y : Step). y.exchange) steps (s ∷ 
 
 answers_to-append : (seat : ℕ) (xs ys : List Step)
     → answers_to seat (xs ++ ys) ≡ answers_to seat xs ++ answers_to seat ys
-answers_to-append seat xs ys =
-    let ours = λ (s : Step). seat == s.seat in
-    ap (λ l. map (λ (s : Step). s.exchange.answer) l) (filter-append ours xs ys)
-    ∙ map-append (λ (s : Step). s.exchange.answer) (filter ours xs) (filter ours ys)
+answers_to-append seat xs ys = simp (filter-append, map-append)
 
 answer_if : (s : Step) (b : Bool)
     → map (λ (y : Step). y.exchange.answer) (cond b (s ∷ []) []) ≡ cond b (s.exchange.answer ∷ []) []
@@ -95,15 +89,8 @@ module _ (seat : ℕ) (steps : List Step) (s : Step) where
   replied_behind : (seat == s.seat) ≡ true → (old new : Outlet) (h : Replied seat steps old) → new.view ≡ old.view
       → (new.is_open ≡ true → IsOwed new.is_crowded new.held (h.unsent ++ s.exchange.answer ∷ []))
       → Replied seat (steps ++ s ∷ []) new
-  replied_behind ours old new h same owed = record {
-    replies = h.replies;
-    unsent = h.unsent ++ s.exchange.answer ∷ [];
-    view = same ∙ h.view;
-    in_order =
-        answers_to-append seat steps (s ∷ []) ∙ (λ i. h.in_order i ++ answers_to-one seat s true ours i)
-        ∙ append_assoc h.replies h.unsent (s.exchange.answer ∷ []);
-    all = owed;
-  }
+  replied_behind ours old new h same owed =
+      search (rules, arith, same, answers_to-append, answers_to-one, append_assoc)
 
   replied_more : (seat == s.seat) ≡ true → (old new : Outlet) → Replied seat steps old
       → Holds s.exchange.answer old new → Replied seat (steps ++ s ∷ []) new
@@ -128,35 +115,14 @@ module _ (seat : ℕ) (steps : List Step) (s : Step) where
 
   replied_other : (seat == s.seat) ≡ false → (outlet : Outlet) → Replied seat steps outlet
       → Replied seat (steps ++ s ∷ []) outlet
-  replied_other theirs outlet h = record {
-    replies = h.replies;
-    unsent = h.unsent;
-    view = h.view;
-    in_order =
-        answers_to-append seat steps (s ∷ []) ∙ (λ i. h.in_order i ++ answers_to-one seat s false theirs i)
-        ∙ append-nil (h.replies ++ h.unsent);
-    all = h.all;
-  }
+  replied_other theirs outlet h = search (rules, arith, answers_to-append, answers_to-one, append-nil)
 
 -- what was held back was sent
 replied_sent : (seat : ℕ) (steps : List Step) (old new : Outlet) → Replied seat steps old → Sends old new
     → Replied seat steps new
 replied_sent seat steps old new h (Sent answer alone was was_open is_none still sent) =
-    let held : h.unsent ≡ answer ∷ [] = owed_alone seat steps old h alone was_open ∙ ap held_in was in
-    record {
-      replies = h.replies ++ answer ∷ [];
-      unsent = [];
-      view = sent h.replies h.view;
-      in_order = h.in_order ∙ ap (λ r. h.replies ++ r) held ∙ sym (append-nil (h.replies ++ answer ∷ []));
-      all = λ _. subst (λ c. IsOwed c new.held []) (sym still) (sym (ap held_in is_none));
-    }
-replied_sent seat steps old new h (Closed is_closed same) = record {
-  replies = h.replies;
-  unsent = h.unsent;
-  view = same ∙ h.view;
-  in_order = h.in_order;
-  all = λ p. absurd (true≢false (sym p ∙ is_closed));
-}
+    search (rules, arith, owed_alone, append-nil, still)
+replied_sent seat steps old new h (Closed is_closed same) = search (rules, arith, same)
 replied_sent seat steps old new h (Still same) = subst (Replied seat steps) (sym same) h
 
 -- an outlet with these
@@ -232,17 +198,7 @@ each_set : (F : ℕ → ReplyLine → Type 0) (lines : List ReplyLine) (at : ℕ
     → ((seat : ℕ) (d : ReplyLine) → seat < length lines → (seat == at) ≡ false → F seat (get_or lines seat d))
     → (seat : ℕ) (d : ReplyLine) → seat < length (set lines at line) → F seat (get_or (set lines at line) seat d)
 each_set F lines at line inside mine others seat d below =
-    ⊎_elim
-    (λ (e : (seat == at) ≡ true).
-    let here : seat ≡ at = eqb-true seat at e in
-    subst (λ (y : ℕ × ReplyLine). F y.0 y.1) (λ i. (
-      sym here i,
-      (sym (get_or-set_same lines at line d inside) ∙ ap (λ n. get_or (set lines at line) n d) (sym here)) i,
-    )) mine)
-    (λ (e : (seat == at) ≡ false).
-    subst (F seat) (sym (get_or-set_other lines at seat line d (eqb-false seat at e)))
-    (others seat d (let n = length-set lines at line in omega arith) e))
-    (is_either (seat == at))
+    search (rules, arith, eqb-true, get_or-set_same, inside, get_or-set_other, eqb-false, length-set, is_either)
 
 module _ (old : Ledger) (j j' : LineView Message) (lines : List ReplyLine) (k : IsKeeping old j lines)
     (x : Item Message) (took : (j' ≡ with_taken x j) × IsOfAnother j x) where
@@ -255,8 +211,7 @@ module _ (old : Ledger) (j j' : LineView Message) (lines : List ReplyLine) (k : 
 
   finish_stays : (seat : ℕ) → TookFinish seat j → TookFinish seat j'
   finish_stays seat f =
-      ap (λ v. has_finish (items_of seat v.taken)) took.0 ∙ ap has_finish (items_of-append seat j.taken (x ∷ []))
-      ∙ has_finish-append (items_of seat j.taken) (items_of seat (x ∷ [])) f
+      cc (items_of-append seat j.taken (x ∷ []), has_finish-append (items_of seat j.taken) (items_of seat (x ∷ [])) f)
 
   -- what is kept of the seats, if the line of one was set
   after : (new : Ledger) (line : ReplyLine) (log : List Step) (lines' : List ReplyLine) → lines' ≡ set lines x.seat line
@@ -264,13 +219,7 @@ module _ (old : Ledger) (j j' : LineView Message) (lines : List ReplyLine) (k : 
       → ((seat : ℕ) (d : ReplyLine) → seat < length lines → (seat == x.seat) ≡ false
       → KeepsSeat seat new.steps j' (get_or lines seat d)) → IsKeeping (record new { steps = log }) j' lines'
   after new line log lines' put grown keeps seated mine others =
-      subst (λ (y : List ReplyLine × List Step). IsKeeping (record new { steps = y.1 }) j' y.0)
-      (λ i. (sym put i, sym grown i)) record {
-        keeps = keeps;
-        receives = subst (λ n. Receives n j') (sym (length-set lines x.seat line)) taken_more;
-        seated = subst (λ n. AreOfSeats n new.steps) (sym (length-set lines x.seat line)) seated;
-        each = each_set (λ seat y. KeepsSeat seat new.steps j' y) lines x.seat line inside mine others;
-      }
+      search (rules, arith, keeps, length-set, taken_more, each_set, inside)
 
   -- a job was served
   module _ (request : Request) (secret : List ℕ) (a : Answer) (now' : ℕ) (service' : State) (count' : ℕ)
@@ -292,29 +241,22 @@ module _ (old : Ledger) (j j' : LineView Message) (lines : List ReplyLine) (k : 
     }
 
     is_taken : taken_by with_step.steps ≡ taken_in j'.taken
-    is_taken =
-        map-append (λ (s : Step). record { seat = s.seat; job = job_of s.exchange }) old.steps (step ∷ [])
-        ∙ (λ i. k.keeps.is_taken i ++ add_job x.seat (sym job i) [])
-        ∙ sym (taken_in-append j.taken (x ∷ [])) ∙ ap (λ v. taken_in v.taken) (sym took.0)
+    is_taken = search (rules, arith, map-append, taken_in-append)
 
     keeps : Keeps with_step j'.taken
     keeps =
-        let e = exchanges_of-more old.steps step in
-        record {
-          lawful = k.keeps.lawful;
-          run =
-              subst (λ xs. Run old.start xs service') (sym e)
-              (run_more (exchanges_of old.steps) step.exchange old.start old.service service' k.keeps.run turn);
-          moments =
-              subst (λ xs. NeverBefore 0 xs) (sym e)
-              (never_before_more 0 (exchanges_of old.steps) step.exchange k.keeps.moments
-              (let a = last_moment-from 0 old.since (exchanges_of old.steps) (omega arith) in
-              let b = k.keeps.last in omega (arith, later)));
-          last = ap (last_moment old.since) e ∙ last_moment-more old.since (exchanges_of old.steps) step.exchange;
-          typed = subst AllTyped (sym e) (all_more IsTyped (exchanges_of old.steps) step.exchange k.keeps.typed types);
-          is_taken = is_taken;
-          counted = let n = k.keeps.counted in let m = length-append old.steps (step ∷ []) in omega arith;
-        }
+        search (
+          rules,
+          arith,
+          exchanges_of-more,
+          run_more,
+          never_before_more,
+          last_moment-from,
+          last_moment-more,
+          all_more,
+          is_taken,
+          length-append,
+        )
 
     pub served_seat : (was line : ReplyLine)
         → was ≡ get_or lines x.seat was → Holds a (outlet_of was) (outlet_of line) → line.is_done ≡ was.is_done
@@ -338,20 +280,10 @@ module _ (old : Ledger) (j j' : LineView Message) (lines : List ReplyLine) (k : 
   -- an item was taken that is no job
   module _ (no_job : add_job x.seat x.what [] ≡ []) where
     none_taken : taken_by old.steps ≡ taken_in j'.taken
-    none_taken =
-        k.keeps.is_taken ∙ sym (append-nil (taken_in j.taken)) ∙ ap (λ l. taken_in j.taken ++ l) (sym no_job)
-        ∙ sym (taken_in-append j.taken (x ∷ [])) ∙ ap (λ v. taken_in v.taken) (sym took.0)
+    none_taken = cc (append-nil (taken_in j.taken), taken_in-append j.taken (x ∷ []))
 
     still : Keeps old j'.taken
-    still = record {
-      lawful = k.keeps.lawful;
-      run = k.keeps.run;
-      moments = k.keeps.moments;
-      last = k.keeps.last;
-      typed = k.keeps.typed;
-      is_taken = none_taken;
-      counted = k.keeps.counted;
-    }
+    still = search (rules, arith, is_taken, none_taken)
 
     keeps_seat_still : (seat : ℕ) (line : ReplyLine) → KeepsSeat seat old.steps j line
         → KeepsSeat seat old.steps j' line
@@ -373,9 +305,12 @@ module _ (old : Ledger) (j j' : LineView Message) (lines : List ReplyLine) (k : 
   module _ (finish : x.what ≡ message.Finish) where
     took_finish : TookFinish x.seat j'
     took_finish =
-        ap (λ v. has_finish (items_of x.seat v.taken)) took.0 ∙ ap has_finish (items_of-append x.seat j.taken (x ∷ []))
-        ∙ ap (λ l. has_finish (items_of x.seat j.taken ++ l)) (of_own x.seat x (same x.seat) ∙ ap (λ m. m ∷ []) finish)
-        ∙ has_finish-last (items_of x.seat j.taken)
+        cc (
+          items_of-append x.seat j.taken (x ∷ []),
+          of_own x.seat x (same x.seat),
+          same x.seat,
+          has_finish-last (items_of x.seat j.taken),
+        )
 
     pub finished_seat : (was line : ReplyLine) → was ≡ get_or lines x.seat was → outlet_of line ≡ outlet_of was
         → (lines' : List ReplyLine) → lines' ≡ set lines x.seat line → IsKeeping old j' lines'
@@ -412,17 +347,12 @@ sent_seat ledger jobs lines k at inside was line was_is sends is_done lines' put
 -- what a keeper kept is a run of which the headline holds
 pub served : HeadlineHolds → (ledger : Ledger) (taken : List (Item Message)) → Keeps ledger taken
     → IsServed ledger.start (exchanges_of ledger.steps) ledger.service
-served law ledger taken k = record {
-  run = k.run;
-  moments = k.moments;
-  headline = law ledger.start (exchanges_of ledger.steps) ledger.service k.lawful k.moments k.run;
-}
+served law ledger taken k = search (rules, arith)
 
 -- one entry more is one step more
 pub logged : (items more : List Entry) (e : Entry) (s : Step) → more ≡ items ++ e ∷ [] → step_of e ≡ s
     → steps_of more ≡ steps_of items ++ s ∷ []
-logged items more e s grown same =
-    ap steps_of grown ∙ map-append step_of items (e ∷ []) ∙ ap (λ y. steps_of items ++ y ∷ []) same
+logged items more e s grown same = cc (map-append step_of items (e ∷ []))
 
 module _ {M : Type 0} (tells : M → ℕ → M → Type 0) where
   told_more : (before : ℕ) (old mid new : M) (xs ys : List Exchange) → Told tells before old xs mid
@@ -437,38 +367,17 @@ module _ {M : Type 0} (tells : M → ℕ → M → Type 0) where
 
   pub grows_none : (keeper new : KeeperState) (before after : M) → new.log ≡ keeper.log → after ≡ before
       → Grows tells keeper before new after
-  grows_none keeper new before after same still =
-      record { more = []; log = same ∙ sym (append-nil keeper.log); told = still }
+  grows_none keeper new before after same still = search (rules, arith, same, append-nil, still)
 
   pub grows_one : (old new : KeeperState) (before after : M) (now told : ℕ) (s : Step) → new.log ≡ old.log ++ s ∷ []
       → now ≡ last_moment old.since (exchanges_of old.log) → tells before told after → s.exchange.now ≡ max now told
       → Grows tells old before new after
-  grows_one old new before after now told s grown last tell greater =
-      record { more = s ∷ []; log = grown; told = (told, after, tell, greater ∙ ap (λ n. max n told) last, refl) }
+  grows_one old new before after now told s grown last tell greater = search (rules, arith, after)
 
   pub grows_twice : (a b c : KeeperState) (p q r : M) → b.since ≡ a.since → Grows tells a p b q → Grows tells b q c r
       → Grows tells a p c r
-  grows_twice a b c p q r same f g = record {
-    more = f.more ++ g.more;
-    log = g.log ∙ ap (λ l. l ++ g.more) f.log ∙ append_assoc a.log f.more g.more;
-    told =
-        let all : exchanges_of (f.more ++ g.more) ≡ exchanges_of f.more ++ exchanges_of g.more =
-        map-append (λ (y : Step). y.exchange) f.more g.more in
-        let first = last_moment a.since (exchanges_of a.log) in
-        let between : last_moment b.since (exchanges_of b.log) ≡ last_moment first (exchanges_of f.more) =
-        ap (λ n. last_moment n (exchanges_of b.log)) same ∙ ap (λ l. last_moment a.since (exchanges_of l)) f.log
-        ∙ ap (last_moment a.since) (map-append (λ (y : Step). y.exchange) a.log f.more)
-        ∙ last_moment-append a.since (exchanges_of a.log) (exchanges_of f.more) in
-        subst (λ xs. Told tells first p xs r) (sym all)
-        (told_more first p q r (exchanges_of f.more) (exchanges_of g.more) f.told
-        (subst (λ n. Told tells n q (exchanges_of g.more) r) between g.told));
-  }
+  grows_twice a b c p q r same f g =
+      search (rules, arith, append_assoc, map-append, same, last_moment-append, told_more)
 
 pub same_keeper_twice : (a b c : KeeperState) → IsSameKeeper a b → IsSameKeeper b c → IsSameKeeper a c
-same_keeper_twice a b c p q =
-    record {
-      jobs = q.jobs ∙ p.jobs;
-      replies = q.replies ∙ p.replies;
-      start = q.start ∙ p.start;
-      since = q.since ∙ p.since;
-    }
+same_keeper_twice a b c p q = search (rules, arith)

@@ -1,7 +1,7 @@
 -- Each move of a line keeps its rule, whatever the other threads did.
-use Rattle.std.proofs.Common.{◌≡◌, ◌≢◌, ℕ, zero, suc, ◌+◌, ◌≤◌, ◌==◌, Bool, true, false, true≢false, cond, List}
-use Rattle.std.proofs.Common.{[], ◌∷◌, ◌++◌, length, length-append, map, filter, set, sym, refl, ap, ◌∙◌, subst, inl}
-use Rattle.std.proofs.Common.{inr, ◌⊎◌, ⊎_elim, append_assoc, append-nil, arith}
+use Rattle.std.proofs.Common.{◌≡◌, ◌≢◌, ℕ, zero, suc, ◌≤◌, ◌==◌, Bool, true, false, true≢false, cond, List}
+use Rattle.std.proofs.Common.{[], ◌∷◌, ◌++◌, length, length-append, map, filter, set, sym, refl, ap, ◌∙◌, inl}
+use Rattle.std.proofs.Common.{inr, ◌⊎◌, ⊎_elim, append_assoc, append-nil, arith, rules}
 use Rattle.std.proofs.lemmas.List.{map-append}
 use Rattle.std.proofs.lemmas.List.Elements.{filter-append}
 use Rattle.std.proofs.lemmas.Bool.{eq-eqb, eqb-true, le-leb, leb-true}
@@ -11,7 +11,6 @@ use Rattle.crossbeam_channel.specs.Fifo.{Pushes, Pops, Forks, Merges}
 use Rattle.atomic_table.proofs.Lists.{at_set}
 use Rattle.upload_intake.specs.declared.line.Item.{Item}
 use Rattle.upload_intake.specs.declared.line.Sending.{Sending}
-use Rattle.upload_intake.specs.declared.line.Sending.TheVariants.{Nothing, One, AllFrom}
 use Rattle.upload_intake.specs.declared.line.LineView.{LineView}
 use Rattle.upload_intake.specs.Line.{Ports, items_of, sends, is_sender, sent, Fits, InOrder, IsOfAnother, unused}
 use Rattle.upload_intake.specs.Line.{idle, after, next, more, without_next, next_alone, joined, with_sent, with_taken}
@@ -37,10 +36,7 @@ none p = absurd (true≢false (sym p))
 module _ {T : Type 0} where
   pub items_of-append : (seat : ℕ) (xs ys : List (Item T))
       → items_of seat (xs ++ ys) ≡ items_of seat xs ++ items_of seat ys
-  items_of-append seat xs ys =
-      let ours = λ (x : Item T). seat == x.seat in
-      ap (λ l. map (λ (x : Item T). x.what) l) (filter-append ours xs ys)
-      ∙ map-append (λ (x : Item T). x.what) (filter ours xs) (filter ours ys)
+  items_of-append seat xs ys = simp (filter-append, map-append)
 
   at_end : (l : List (LineView T)) (a b : LineView T) (j : ℕ) → get_elem? l j ≢ some b
       → get_elem? (l ++ a ∷ []) j ≡ some b → j ≡ length l
@@ -55,14 +51,10 @@ module _ {T : Type 0} where
 
   each_set : (F : ℕ → LineView T → Type 0) (views : List (LineView T)) (port : ℕ) (w : LineView T) → F port w
       → ((j : ℕ) (u : LineView T) → j ≢ port → get_elem? views j ≡ some u → F j u) → Each F (set views port w)
-  each_set F views port w mine others j u e =
-      ⊎_elim (λ (x : (j ≡ port) × (w ≡ u)). subst (λ (y : ℕ × LineView T). F y.0 y.1) (λ i. (sym x.0 i, x.1 i)) mine)
-      (λ (x : (j ≢ port) × (get_elem? views j ≡ some u)). others j u x.0 x.1) (at_set views port j w u e)
+  each_set F views port w mine others j u e = search (rules, arith, at_set)
 
   each_one : (F : ℕ → LineView T → Type 0) (w : LineView T) → F 0 w → Each F (w ∷ [])
-  each_one F w mine j u e =
-      each_set F (w ∷ []) 0 w mine
-      (λ i x other at. absurd (other (at_end [] w x i (λ y. some-ne-none x (sym y)) at))) j u e
+  each_one F w mine j u e = search (rules, arith, each_set, at_end)
 
   pub begins : InOrder {T = T} [] (unused ∷ [])
   begins =
@@ -72,8 +64,7 @@ module _ {T : Type 0} where
   -- what a seat sent, with one item more behind all
   grown : (seat : ℕ) (x : Item T) (taken items : List (Item T))
       → items_of seat (taken ++ (items ++ x ∷ [])) ≡ items_of seat (taken ++ items) ++ items_of seat (x ∷ [])
-  grown seat x taken items =
-      ap (items_of seat) (sym (append_assoc taken items (x ∷ []))) ∙ items_of-append seat (taken ++ items) (x ∷ [])
+  grown seat x taken items = cc (append_assoc taken items (x ∷ []), items_of-append seat (taken ++ items) (x ∷ []))
 
   -- one item more, of its own seat and of another
   pub of_own : (seat : ℕ) (x : Item T) → (seat == x.seat) ≡ true → items_of seat (x ∷ []) ≡ x.what ∷ []
@@ -83,24 +74,16 @@ module _ {T : Type 0} where
   of_other seat x e = ap (λ b. map (λ (y : Item T). y.what) (cond b (x ∷ []) [])) e
 
   more_sends : (seat : ℕ) (t : T) (k : Sending T) → sends seat (more t k) ≡ true → sends seat k ≡ true
-  more_sends seat t Nothing p = p
-  more_sends seat t (One own xs) p = p
-  more_sends seat t (AllFrom first) p = p
+  more_sends seat t k p = search (rules, arith)
 
   more_sent : (seat : ℕ) (t : T) (k : Sending T) → is_sender seat k ≡ true → sent (more t k) ≡ sent k ++ t ∷ []
-  more_sent seat t (One own xs) p = refl
-  more_sent seat t Nothing p = none p
-  more_sent seat t (AllFrom first) p = none p
+  more_sent seat t k p = search (rules, arith, none)
 
   is_sending : (seat : ℕ) (k : Sending T) → is_sender seat k ≡ true → sends seat k ≡ true
-  is_sending seat (One own xs) p = p
-  is_sending seat Nothing p = none p
-  is_sending seat (AllFrom first) p = none p
+  is_sending seat k p = search (rules, arith, none)
 
   only : (seat other : ℕ) (k : Sending T) → is_sender seat k ≡ true → sends other k ≡ true → other ≡ seat
-  only seat other (One own xs) p q = eqb-true other own q ∙ sym (eqb-true seat own p)
-  only seat other Nothing p q = none p
-  only seat other (AllFrom first) p q = none p
+  only seat other k p q = search (rules, arith, eqb-true, none)
 
   pub sending : (n port : ℕ) (v : LineView T) (x : Item T) → is_sender x.seat v.sending ≡ true
       → Pushes InOrder n port v x (λ w. w ≡ with_sent x v)
@@ -181,24 +164,15 @@ module _ {T : Type 0} where
 
   each_more : (F : ℕ → LineView T → Type 0) (views : List (LineView T)) (w : LineView T) → Each F views
       → F (length views) w → Each F (views ++ w ∷ [])
-  each_more F views w old new j u e =
-      ⊎_elim (old j u)
-      (λ (x : (j ≡ length views) × (w ≡ u)). subst (λ (y : ℕ × LineView T). F y.0 y.1) (λ i. (sym x.0 i, x.1 i)) new)
-      (at_more views w u j e)
+  each_more F views w old new j u e = search (rules, arith, at_more)
 
   -- what is kept if the next seat's sender is cut off, and what is cut off
   kept : (seat : ℕ) (k : Sending T) → sends seat (after k) ≡ true
       → (sends seat k ≡ true) × (sent (after k) ≡ sent k) × (sends seat (next k) ≡ true → ⊥)
-  kept seat (AllFrom first) p =
-      let above = leb-true (first + 1) seat p in
-      (le-leb first seat (omega arith), refl, λ q. let e = eqb-true seat first q in omega arith)
-  kept seat Nothing p = none p
-  kept seat (One own xs) p = none p
+  kept seat k p = search (rules, arith, leb-true, le-leb, eqb-true, none)
 
   cut : (seat : ℕ) (k : Sending T) → sends seat (next k) ≡ true → (sends seat k ≡ true) × (sent (next k) ≡ sent k)
-  cut seat (AllFrom first) p = let e = eqb-true seat first p in (le-leb first seat (omega arith), refl)
-  cut seat Nothing p = none p
-  cut seat (One own xs) p = (p, refl)
+  cut seat k p = search (rules, arith, eqb-true, le-leb, none)
 
   pub cuts_next : (port : ℕ) (v : LineView T) → Forks InOrder port v (without_next v) (next_alone v)
   cuts_next port v items views h at =
@@ -259,6 +233,4 @@ module _ {T : Type 0} where
   -- a taken item is of a seat that was cut off
   pub seat_below : (seats : ℕ) (taken : List (Item T)) (v : LineView T) (x : Item T) → v ≡ taker_view seats taken
       → IsOfAnother v x → seats ≤ x.seat → ⊥
-  seat_below seats taken v x e other above =
-      subst (λ (y : LineView T). sends x.seat y.sending ≡ true → sent y.sending ≢ []) e other
-      (le-leb seats x.seat above) refl
+  seat_below seats taken v x e other above = search (rules, arith, le-leb)

@@ -1,6 +1,6 @@
 -- What the seats have in common with the lines, while they are made.
 use Rattle.std.proofs.Common.{◌≡◌, ℕ, zero, suc, ◌<◌, List, [], ◌∷◌, ◌++◌, length, get_or, length-append, append_assoc}
-use Rattle.std.proofs.Common.{append-nil, map, sym, refl, ap, ◌∙◌, arith}
+use Rattle.std.proofs.Common.{append-nil, map, sym, refl, ap, ◌∙◌, arith, rules}
 use Rattle.std.proofs.lemmas.List.{nil_from_length}
 use Rattle.upload_service.specs.declared.answer.Answer.{Answer}
 use Rattle.upload_intake.specs.declared.message.Message.{Message}
@@ -56,15 +56,7 @@ one_seat_more jobs replies line seats seat same each p q r =
 pub of_one_call : (keeper : KeeperState) (jobs : LineId Message) (replies : List (LineId Answer))
     (seats : List SeatState) → keeper.jobs ≡ jobs → keeper.replies ≡ replies → length seats ≡ length replies
     → AreSeatsOn jobs replies seats → AreOfOneCall keeper seats
-of_one_call keeper jobs replies seats p q n each = record {
-  count = n ∙ ap length (sym q);
-  each = λ k d below. let s = each k d below in
-      record {
-        jobs = s.jobs_is ∙ sym p;
-        replies = λ e. s.replies_is e ∙ ap (λ l. get_or l k e) (sym q);
-        number_is = s.number_is;
-      };
-}
+of_one_call keeper jobs replies seats p q n each = search (rules, arith)
 
 -- ---- settling one seat after the other
 

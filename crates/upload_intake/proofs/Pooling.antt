@@ -1,5 +1,5 @@
 -- What a served pool comes to, from the ends of its threads.
-use Rattle.std.proofs.Common.{◌≡◌, ℕ, zero, suc, ◌<◌, List, [], ◌∷◌, ◌++◌, arith, length, get_or, sym, ap}
+use Rattle.std.proofs.Common.{◌≡◌, ℕ, zero, suc, ◌<◌, List, [], ◌∷◌, ◌++◌, arith, length, get_or, sym, ap, rules}
 use Rattle.std.proofs.Common.{◌∙◌, subst}
 use Rattle.std.specs.Prelude.{All}
 use Rattle.std.specs.List.{AllByRecursion}
@@ -45,11 +45,7 @@ module _ {L : Lending} {S G O M : Type 0} (m : Means L S G O) (tells : M → ℕ
 
   seat_of_one_call : (keeper behind : KeeperState) (k : ℕ) (st : Station L.Conns S G O) (new : SeatState)
       → IsSameKeeper keeper behind → IsSeatOf keeper k st.seat → IsSameSeat st.seat new → IsSeatOf behind k new
-  seat_of_one_call keeper behind k st new same one seat = record {
-    jobs = seat.jobs ∙ one.jobs ∙ sym same.jobs;
-    replies = λ d. seat.replies ∙ one.replies d ∙ ap (λ l. get_or l k d) (sym same.replies);
-    number_is = seat.seat ∙ one.number_is;
-  }
+  seat_of_one_call keeper behind k st new same one seat = search (rules, arith)
 
   -- some worker that left its seat so
   abbrev some_left : Station L.Conns S G O → SeatState → Leaving L.Conns S G O
@@ -74,12 +70,7 @@ module _ {L : Lending} {S G O M : Type 0} (m : Means L S G O) (tells : M → ℕ
   pub still_of_one_call : (keeper behind : KeeperState) (stations : List (Station L.Conns S G O))
       (left : AllLeft L.Conns S G O) → AreOfOneCall keeper (seats_of stations) → IsSameKeeper keeper behind
       → length left.seats ≡ length stations → EachWorks m stations left → AreOfOneCall behind left.seats
-  still_of_one_call keeper behind stations left one same len works =
-      let p = length-map stations (λ (s : Station L.Conns S G O). s.seat) in
-      record {
-        count = len ∙ sym p ∙ one.count ∙ ap length (sym same.replies);
-        each = λ k d below. seated keeper behind stations left one same works k d (omega arith);
-      }
+  still_of_one_call keeper behind stations left one same len works = search (rules, arith, length-map, seated)
 
   parts : (max_body : ℕ) (steps : List Step) (stations : List (Station L.Conns S G O)) (left : AllLeft L.Conns S G O)
       → All IsFresh (seats_of stations) → All (λ n. n ≡ max_body) (limits_of stations)
@@ -206,4 +197,4 @@ module _ {L : Lending} {S G O : Type 0} (m : Means L S G O) where
         ends = left.ends ++ l.end ∷ [];
       })
   works_more stations left st l p q r h w =
-      more_works stations left.seats left.workers left.ends st l p q r h w
+      omega (arith, more_works stations left.seats left.workers left.ends st l p q r h w)

@@ -1,5 +1,5 @@
 -- A restart has what was heard.
-use Rattle.std.proofs.Common.{◌≡◌, ℕ, ◌≤◌, Bool, true≢false, List, [], ◌∷◌, ◌++◌}
+use Rattle.std.proofs.Common.{◌≡◌, ℕ, ◌≤◌, Bool, List, [], ◌∷◌, ◌++◌, rules}
 use Rattle.std.proofs.Common.{map, sym, refl, ap, ◌∙◌, subst, arith}
 use Rattle.std.specs.Prelude.{if◌then◌else◌}
 use Rattle.std.proofs.lemmas.List.Elements.{filter-append}
@@ -21,15 +21,11 @@ record Parts (old : State) (xs ys : List Exchange) (new : State) : Type 0 where
 
 parts : (old : State) (xs ys : List Exchange) (new : State) → Run old (xs ++ ys) new → Parts old xs ys new
 parts old [] ys new r = record { mid = old; first = refl; second = r }
-parts old (x ∷ xs) ys new r =
-    let p = parts r.0 xs ys new r.2 in record { mid = p.mid; first = (r.0, r.1, p.first); second = p.second }
+parts old (x ∷ xs) ys new r = search (rules, arith, parts r.0 xs ys new r.2)
 
 remembered : (xs : List Exchange) → AreRemembered (changed xs)
 remembered [] = tt
-remembered (x ∷ xs) =
-    by_first (λ ys. AreRemembered ys) x xs
-    (λ some. (λ out. true≢false (sym some ∙ ap changes out), remembered xs))
-    (λ none. remembered xs)
+remembered (x ∷ xs) = search (rules, arith, by_first, remembered xs)
 
 -- exchanges as the steps of one seat
 abbrev at_0 : Exchange → Step
@@ -52,12 +48,16 @@ as_steps (x ∷ xs) h = (h.0, as_steps xs h.1)
 again : (start one two : State) (xs ys : List Exchange) → Run start xs one → Run start ys two
     → map asked_of xs ≡ map asked_of ys → AreRemembered xs → AreRemembered ys → (xs ≡ ys) × (one ≡ two)
 again start one two xs ys p q same m n =
-    let r =
-    runs_same start start one two (map at_0 xs) (map at_0 ys) refl (subst (λ l. Run start l one) (sym (back xs)) p)
-    (subst (λ l. Run start l two) (sym (back ys)) q)
-    (of_asks xs ∙ ap (map (λ (a : Asked). (0, (a.ask, (a.secret, a.now))))) same ∙ sym (of_asks ys)) (as_steps xs m)
-    (as_steps ys n) in
-    (sym (back xs) ∙ ap exchanges_of r.0 ∙ back ys, r.1)
+    grind (
+      arith,
+      runs_same start start one two,
+      back xs,
+      back ys,
+      of_asks xs,
+      of_asks ys,
+      as_steps xs m,
+      as_steps ys n,
+    )
 
 rises : (moment : ℕ) (xs : List Exchange) → NeverBefore moment xs → moment ≤ last_moment moment xs
 rises moment [] n = omega arith
@@ -69,43 +69,45 @@ by_then : (moment : ℕ) (front : List Exchange) (x : Exchange) (rest : List Exc
 by_then moment [] x rest n = rises x.now rest n.1
 by_then moment (y ∷ front) x rest n = by_then y.now front x rest n.1
 
-module _ (start : State) (kept : List Exchange) (upto : ℕ) (answer : Answer) (h : MayBeHeard start kept upto answer) where
-  -- by what is kept alone
-  has_answer : HasAnswer start kept h.service upto answer
-  has_answer =
-      let p = parts start h.front (h.x ∷ h.rest) h.service h.served.run in
-      record {
-        before = changed h.front;
-        after = changed (h.x ∷ h.rest);
-        all = sym h.changes_are_kept ∙ filter-append (λ (y : Exchange). changes y.answer) h.front (h.x ∷ h.rest);
-        mid = p.mid;
-        run = leaves_out start h.front p.mid p.first;
-        on = leaves_out p.mid (h.x ∷ h.rest) h.service p.second;
-        x = h.x;
-        left = p.second.0;
-        turn = p.second.1;
-        answer_is = h.answer_is;
-        by = (let a = by_then 0 h.front h.x h.rest h.served.moments in let b = h.promised in omega arith);
-        change =
-            λ some. (
-              changed h.rest,
-              ap (λ (b : Bool). if b then h.x ∷ changed h.rest else changed h.rest) (ap changes h.answer_is ∙ some),
-            );
-      }
+module _ (start : State) (kept : List Exchange) (upto : ℕ) (answer : Answer) (h : MayBeHeard start kept upto answer)
+  where
+    -- by what is kept alone
+    has_answer : HasAnswer start kept h.service upto answer
+    has_answer =
+        let p = parts start h.front (h.x ∷ h.rest) h.service h.served.run in
+        record {
+          before = changed h.front;
+          after = changed (h.x ∷ h.rest);
+          all = sym h.changes_are_kept ∙ filter-append (λ (y : Exchange). changes y.answer) h.front (h.x ∷ h.rest);
+          mid = p.mid;
+          run = leaves_out start h.front p.mid p.first;
+          on = leaves_out p.mid (h.x ∷ h.rest) h.service p.second;
+          x = h.x;
+          left = p.second.0;
+          turn = p.second.1;
+          answer_is = h.answer_is;
+          by = (let a = by_then 0 h.front h.x h.rest h.served.moments in let b = h.promised in omega arith);
+          change =
+              λ some. (
+                changed h.rest,
+                ap (λ (b : Bool). if b then h.x ∷ changed h.rest else changed h.rest) (ap changes h.answer_is ∙ some),
+              );
+        }
 
-  restart_has : (served : List Exchange) (service : State) → Run start served service
-      → map asked_of served ≡ map asked_of kept → AreRemembered served
-      → (served ≡ kept) × HasAnswer start served service upto answer
-  unfolding has_answer
-  restart_has served service r same m =
-      let kept_run =
-      subst (λ l. Run start l h.service) h.changes_are_kept
-      (leaves_out start (h.front ++ h.x ∷ h.rest) h.service h.served.run) in
-      let kept_m = subst AreRemembered h.changes_are_kept (remembered (h.front ++ h.x ∷ h.rest)) in
-      let e = again start service h.service served kept r kept_run same m kept_m in (
-        e.0,
-        subst (λ (y : List Exchange × State). HasAnswer start y.0 y.1 upto answer) (λ i. (sym e.0 i, sym e.1 i)) has_answer,
-      )
+    restart_has : (served : List Exchange) (service : State) → Run start served service
+        → map asked_of served ≡ map asked_of kept → AreRemembered served
+        → (served ≡ kept) × HasAnswer start served service upto answer
+    unfolding has_answer
+    restart_has served service r same m =
+        let kept_run =
+        subst (λ l. Run start l h.service) h.changes_are_kept
+        (leaves_out start (h.front ++ h.x ∷ h.rest) h.service h.served.run) in
+        let kept_m = subst AreRemembered h.changes_are_kept (remembered (h.front ++ h.x ∷ h.rest)) in
+        let e = again start service h.service served kept r kept_run same m kept_m in (
+          e.0,
+          subst (λ (y : List Exchange × State). HasAnswer start y.0 y.1 upto answer) (λ i. (sym e.0 i, sym e.1 i))
+              has_answer,
+        )
 
 pub told_is_kept : ToldIsKept
 told_is_kept = restart_has

@@ -1,5 +1,5 @@
 -- What is kept, from one step to the next.
-use Rattle.std.proofs.Common.{◌≡◌, ℕ, ◌≤◌, Bool, true, false, true≢false, List, [], ◌∷◌, ◌++◌, filter, map}
+use Rattle.std.proofs.Common.{◌≡◌, ℕ, ◌≤◌, Bool, true, false, true≢false, List, [], ◌∷◌, ◌++◌, filter, map, rules}
 use Rattle.std.proofs.Common.{sym, refl, ap, ◌∙◌, subst, arith, append-nil, append_assoc, ⊎_elim}
 use Rattle.std.specs.Prelude.{if◌then◌else◌, ◌==◌, Option, Some, None, IfSome}
 use Rattle.std.proofs.lemmas.List.{map-append}
@@ -21,47 +21,22 @@ module _ (start : State) (kept : List Exchange) (now : ℕ) (service : State) (l
     (x : Exchange) (later : now ≤ x.now) (service' : State)
     (turn : Turn service x.ask x.secret x.now x.answer service') where
   with_it : changes x.answer ≡ true → Leads start (kept ++ x ∷ []) x.now service'
-  with_it it = record {
-    lawful = l.lawful;
-    run = run_more kept x start service service' l.run turn;
-    moments = never_before_more 0 kept x l.moments (let a = l.last in omega arith);
-    last = let e = last_moment-more 0 kept x in omega arith;
-    only =
-        filter-append (λ (y : Exchange). changes y.answer) kept (x ∷ []) ∙ (λ i. l.only i ++ changed (x ∷ []))
-        ∙ ap (λ c. kept ++ (if c then x ∷ [] else [])) it;
-  }
+  with_it it = search (rules, arith, run_more, never_before_more, last_moment-more, filter-append)
 
   leads_if : (b : Bool) → changes x.answer ≡ b → Leads start (kept ++ changed (x ∷ [])) x.now service'
   leads_if true e = subst (λ c. Leads start (kept ++ (if c then x ∷ [] else [])) x.now service') (sym e) (with_it e)
-  leads_if false e =
-      subst (λ c. Leads start (kept ++ (if c then x ∷ [] else [])) x.now service') (sym e) record {
-        lawful = l.lawful;
-        run =
-            subst (λ (y : List Exchange × State). Run start y.0 y.1) (λ i. (
-              sym (append-nil kept) i,
-              sym (turn_still service x.ask x.secret x.now x.answer service' turn e) i,
-            )) l.run;
-        moments = subst (NeverBefore 0) (sym (append-nil kept)) l.moments;
-        last = subst (λ y. last_moment 0 y ≤ x.now) (sym (append-nil kept)) (let a = l.last in omega arith);
-        only = subst (λ y. changed y ≡ y) (sym (append-nil kept)) l.only;
-      }
+  leads_if false e = search (rules, arith, append-nil, turn_still)
 
   pub leads_more : (since : ℕ) (start' : State) → start' ≡ start → (kept' : List Exchange)
       → kept' ≡ kept ++ changed (x ∷ [])
       → (log : List Step) (s : Step) → s.exchange ≡ x → (log' : List Step) → log' ≡ log ++ s ∷ []
       → Leads start' kept' (last_moment since (exchanges_of log')) service'
   leads_more since start' begun kept' grown log s same log' more =
-      let moment : last_moment since (exchanges_of log') ≡ x.now =
-      ap (λ l. last_moment since (exchanges_of l)) more ∙ ap (last_moment since) (exchanges_of-more log s)
-      ∙ last_moment-more since (exchanges_of log) s.exchange ∙ ap (λ (y : Exchange). y.now) same in
-      subst (λ (y : State × List Exchange × ℕ). Leads y.0 y.1 y.2 service')
-      (λ i. (sym begun i, sym grown i, sym moment i))
-      (leads_if (changes x.answer) refl)
+      search (rules, arith, exchanges_of-more, last_moment-more, leads_if)
 
 pub kept_none : (keeper new : KeeperState) (before after : List Exchange) → new.log ≡ keeper.log → after ≡ before
     → KeptSince keeper before new after
-kept_none keeper new before after same still =
-    record { more = []; log = same ∙ sym (append-nil keeper.log); kept = still ∙ sym (append-nil before) }
+kept_none keeper new before after same still = search (rules, arith, append-nil)
 
 -- what is kept may be told in another way
 pub kept_by : (old : KeeperState) (before : List Exchange) (new : KeeperState) (after after' : List Exchange)
@@ -70,16 +45,7 @@ kept_by old before new after after' k same = record { more = k.more; log = k.log
 
 pub kept_twice : (a b c : KeeperState) (p q r : List Exchange) → KeptSince a p b q → KeptSince b q c r
     → KeptSince a p c r
-kept_twice a b c p q r f g = record {
-  more = f.more ++ g.more;
-  log = g.log ∙ ap (λ l. l ++ g.more) f.log ∙ append_assoc a.log f.more g.more;
-  kept =
-      g.kept ∙ ap (λ l. l ++ changed (exchanges_of g.more)) f.kept
-      ∙ append_assoc p (changed (exchanges_of f.more)) (changed (exchanges_of g.more))
-      ∙ ap (λ l. p ++ l) (
-      sym (filter-append (λ (x : Exchange). changes x.answer) (exchanges_of f.more) (exchanges_of g.more))
-      ∙ sym (ap changed (map-append (λ (y : Step). y.exchange) f.more g.more)));
-}
+kept_twice a b c p q r f g = search (rules, arith, append_assoc, filter-append, map-append)
 
 -- what a keeper keeps begins with all that is kept when its log is empty
 pub follows_at_first : (start : State) (kept : List Exchange) (upto : ℕ) (keeper : KeeperState)
@@ -102,45 +68,17 @@ pub follows_alone : (keeper : KeeperState) (upto : ℕ) → IsLawful keeper.star
     → Run keeper.start (exchanges_of keeper.log) keeper.service → NeverFall (exchanges_of keeper.log)
     → now_of keeper ≤ upto → Follows keeper.start (changed (exchanges_of keeper.log)) upto keeper
 follows_alone keeper upto lawful run moments by =
-    let xs = exchanges_of keeper.log in
-    let fewer = moments_of_changes 0 xs moments in
-    let from = last_moment-from 0 keeper.since xs (omega arith) in
-    record {
-      leads = record {
-        lawful = lawful;
-        run = leaves_out keeper.start xs keeper.service run;
-        moments = fewer.0;
-        last = omega (arith, fewer.1, from);
-        only = changed_twice xs;
-      };
-      by = by;
-      earlier = [];
-      run = run;
-      moments = moments;
-      last = from;
-      whole = refl;
-    }
+    search (rules, arith, moments_of_changes, last_moment-from, leaves_out, changed_twice)
 
 -- nothing more is served, and nothing more is kept
 pub follows_still : (start start' : State) (kept kept' : List Exchange) (upto upto' : ℕ) (old new : KeeperState)
     → Follows start kept upto old → start' ≡ start → kept' ≡ kept → upto' ≡ upto → new.since ≡ old.since
     → new.service ≡ old.service → new.log ≡ old.log → Follows start' kept' upto' new
-follows_still start start' kept kept' upto upto' old new f begun same by since service log =
-    let still = subst (λ (y : State × List Exchange × ℕ × ℕ × State × List Step).
-    Follows y.0 y.1 y.2 (record old { since = y.3; service = y.4; log = y.5 }))
-    (λ i. (sym begun i, sym same i, sym by i, sym since i, sym service i, sym log i)) f in
-    record {
-      leads = still.leads;
-      by = still.by;
-      earlier = still.earlier;
-      run = still.run;
-      moments = still.moments;
-      last = still.last;
-      whole = still.whole;
-    }
+follows_still start start' kept kept' upto upto' old new f begun same by since service log = search (rules, arith)
 
 -- one exchange more, which is kept later
-pub follows_more : (start start' : State) (kept kept' : List Exchange) (upto upto' : ℕ) (old new : KeeperState) (now : ℕ)
+pub follows_more : (start start' : State) (kept kept' : List Exchange) (upto upto' : ℕ) (old new : KeeperState)
+    (now : ℕ)
     → Follows start kept upto old → start' ≡ start → new.since ≡ old.since
     → last_moment old.since (exchanges_of old.log) ≡ now
     → (s : Step) → now ≤ s.exchange.now
@@ -179,16 +117,7 @@ follows_more start start' kept kept' upto upto' old new now f begun since is s l
 -- also up to a later moment
 pub follows_by : (start start' : State) (kept kept' : List Exchange) (upto upto' : ℕ) (keeper : KeeperState)
     → Follows start kept upto keeper → start' ≡ start → kept' ≡ kept → upto ≤ upto' → Follows start' kept' upto' keeper
-follows_by start start' kept kept' upto upto' keeper f begun same later =
-    subst (λ (y : State × List Exchange). Follows y.0 y.1 upto' keeper) (λ i. (sym begun i, sym same i)) record {
-      leads = f.leads;
-      by = (let a = f.by in omega arith);
-      earlier = f.earlier;
-      run = f.run;
-      moments = f.moments;
-      last = f.last;
-      whole = f.whole;
-    }
+follows_by start start' kept kept' upto upto' keeper f begun same later = search (rules, arith)
 
 -- what follows is safe to keep
 pub follows_safely : HeadlineHolds → (start : State) (kept : List Exchange) (upto : ℕ) (keeper : KeeperState)
@@ -240,8 +169,7 @@ own : (seat : ℕ) (s : Step) (steps : List Step) (front rest : List Answer) (an
     → Stands answer (exchanges_of steps)) → Stands answer (exchanges_of (s ∷ steps))
 unfolding first_of rest_of
 own seat s steps [] rest answer e ih = here answer s.exchange (exchanges_of steps) (ap (first_of answer) e)
-own seat s steps (a ∷ front) rest answer e ih =
-    behind answer s.exchange (exchanges_of steps) (ih front (ap rest_of e))
+own seat s steps (a ∷ front) rest answer e ih = search (rules, arith, behind)
 
 none_there : (front rest : List Answer) (answer : Answer) → [] ≡ front ++ answer ∷ rest → ⊥
 unfolding is_some_list
@@ -296,6 +224,4 @@ module _ (law : HeadlineHolds) (seat : ℕ) (start : State) (kept : List Exchang
   -- what is held back for a seat may be heard, once all that changed is kept
   pub held_may_be_heard : (outlet : Outlet) → Replied seat keeper.log outlet → outlet.is_open ≡ true
       → outlet.is_crowded ≡ false → IfSome outlet.held (λ answer. MayBeHeard start kept upto answer)
-  held_may_be_heard outlet r up alone =
-      may_hear outlet.held r.replies
-      (r.in_order ∙ ap (λ l. r.replies ++ l) (owed_alone seat keeper.log outlet r alone up))
+  held_may_be_heard outlet r up alone = search (rules, arith, may_hear, owed_alone)

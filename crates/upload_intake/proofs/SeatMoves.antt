@@ -1,7 +1,7 @@
 -- What a seat's passes know after a request, an answer, and the end.
-use Rattle.std.proofs.Common.{◌≡◌, ◌≤◌, ◌==◌, ℕ, zero, suc, Bool, true, false, true≢false, List, [], ◌∷◌, ◌++◌, length}
+use Rattle.std.proofs.Common.{◌≡◌, ◌≤◌, ◌==◌, ℕ, zero, suc, Bool, true, false, true≢false, List, [], ◌∷◌, ◌++◌}
 use Rattle.std.proofs.Common.{length-append, sym, refl, ap, ◌∙◌, arith, append-nil, Result, Ok, Err, MatchResult}
-use Rattle.std.proofs.Common.{Option, Some, None, subst}
+use Rattle.std.proofs.Common.{Option, Some, None, subst, rules}
 use Rattle.std.specs.Result.{result_ok}
 use Rattle.std.proofs.lemmas.List.{map-append}
 use Rattle.upload_service.specs.declared.ask.Ask.{Ask}
@@ -68,14 +68,12 @@ module _ (seat : ℕ) (gone : Bool) (j : LineView Message) (r : LineView Answer)
 
   jobs_after : (m : Message) (j' : LineView Message) → j' ≡ with_sent (record { seat = seat; what = m }) j
       → jobs_in (sent j'.sending) ≡ jobs_in s.sent ++ jobs_in (m ∷ [])
-  jobs_after m j' e =
-      ap (λ v. jobs_in (sent v.sending)) (more m j' e) ∙ jobs_in-append s.sent (m ∷ [])
+  jobs_after m j' e = cc (more m j' e, jobs_in-append s.sent (m ∷ []))
 
   pub one_more_sent : (request : Request) (secret : List ℕ) (j' : LineView Message)
       → j' ≡ with_sent (record { seat = seat; what = message.Job request secret }) j
       → jobs_in (sent j'.sending) ≡ jobs_in (sent j.sending) ++ (ask_in request, secret) ∷ []
-  one_more_sent request secret j' e =
-      jobs_after (message.Job request secret) j' e ∙ ap (λ l. l ++ (ask_in request, secret) ∷ []) (sym jobs_before)
+  one_more_sent request secret j' e = cc (jobs_after (message.Job request secret) j' e)
 
   no_more_sent : (j' : LineView Message) → j' ≡ with_sent (record { seat = seat; what = message.Finish }) j
       → jobs_in (sent j'.sending) ≡ jobs_in (sent j.sending)
@@ -84,20 +82,7 @@ module _ (seat : ℕ) (gone : Bool) (j : LineView Message) (r : LineView Answer)
   -- a wish was sent, which is no job
   pub wish_sent : (wish : Wish) (j' : LineView Message)
       → j' ≡ with_sent (record { seat = seat; what = message.Wish wish }) j → Sits seat gone j' r
-  wish_sent wish j' e =
-      let same : jobs_in (s.sent ++ message.Wish wish ∷ []) ≡ jobs_in s.sent =
-      jobs_in-append s.sent (message.Wish wish ∷ []) ∙ append-nil (jobs_in s.sent) in
-      record {
-        sent = s.sent ++ message.Wish wish ∷ [];
-        knows = record {
-          got = s.knows.got;
-          jobs_view = more (message.Wish wish) j' e;
-          replies_view = s.knows.replies_view;
-          of_one = s.knows.of_one;
-          each_answered = λ p. s.knows.each_answered p ∙ ap length (sym same);
-        };
-        unfinished = still_unfinished s.sent (message.Wish wish) refl s.unfinished;
-      }
+  wish_sent wish j' e = search (rules, arith, jobs_in-append, append-nil, more, still_unfinished)
 
   pub no_job_sent : (wish : Wish) (j' : LineView Message)
       → j' ≡ with_sent (record { seat = seat; what = message.Wish wish }) j
@@ -108,70 +93,30 @@ module _ (seat : ℕ) (gone : Bool) (j : LineView Message) (r : LineView Answer)
       (r' : LineView Answer) → j' ≡ with_sent (record { seat = seat; what = message.Job request secret }) j
       → (r' ≡ with_taken x r) × IsOfAnother r x → Sits seat gone j' r'
   answered here request secret x j' r' e f =
-      let n : length s.knows.got ≡ length (jobs_in s.sent) = s.knows.each_answered here in
-      record {
-        sent = s.sent ++ message.Job request secret ∷ [];
-        knows = record {
-          got = s.knows.got ++ x ∷ [];
-          jobs_view = more (message.Job request secret) j' e;
-          replies_view = f.0 ∙ ap (with_taken x) s.knows.replies_view;
-          of_one =
-              items_of-append 0 s.knows.got (x ∷ []) ∙ (λ i. s.knows.of_one i
-              ++ of_own 0 x (zero_unless x.seat (seat_below 1 s.knows.got r x s.knows.replies_view f.1)) i)
-              ∙ sym (whats_more s.knows.got x);
-          each_answered = λ _. omega (
-            arith,
-            length-append s.knows.got (x ∷ []),
-            ap length (jobs_in-append s.sent (message.Job request secret ∷ [])),
-            length-append (jobs_in s.sent) ((ask_in request, secret) ∷ []),
-            n,
-          );
-        };
-        unfinished = still_unfinished s.sent (message.Job request secret) refl s.unfinished;
-      }
+      search (
+        rules,
+        arith,
+        more,
+        items_of-append,
+        of_own,
+        zero_unless,
+        seat_below,
+        whats_more,
+        length-append,
+        jobs_in-append,
+        still_unfinished,
+      )
 
   pub unanswered : (request : Request) (secret : List ℕ) (j' : LineView Message) (r' : LineView Answer)
       → j' ≡ with_sent (record { seat = seat; what = message.Job request secret }) j → r' ≡ r → Sits seat true j' r'
-  unanswered request secret j' r' e f = record {
-    sent = s.sent ++ message.Job request secret ∷ [];
-    knows = record {
-      got = s.knows.got;
-      jobs_view = more (message.Job request secret) j' e;
-      replies_view = f ∙ s.knows.replies_view;
-      of_one = s.knows.of_one;
-      each_answered = λ p. absurd (true≢false p);
-    };
-    unfinished = still_unfinished s.sent (message.Job request secret) refl s.unfinished;
-  }
+  unanswered request secret j' r' e f = search (rules, arith, more, still_unfinished)
 
   ended : (j' : LineView Message) → j' ≡ with_sent (record { seat = seat; what = message.Finish }) j
       → SatToTheEnd seat gone j' r
-  ended j' e = record {
-    sent = s.sent ++ message.Finish ∷ [];
-    knows = record {
-      got = s.knows.got;
-      jobs_view = more message.Finish j' e;
-      replies_view = s.knows.replies_view;
-      of_one = s.knows.of_one;
-      each_answered =
-          λ p. s.knows.each_answered p
-          ∙ ap length (sym (jobs_in-append s.sent (message.Finish ∷ []) ∙ append-nil (jobs_in s.sent)));
-    };
-    finished_last = closed_by_finish s.sent s.unfinished;
-  }
+  ended j' e = search (rules, arith, more, jobs_in-append, append-nil, closed_by_finish)
 
   ended_unsent : (j' : LineView Message) → j' ≡ j → SatToTheEnd seat gone j' r
-  ended_unsent j' e = record {
-    sent = s.sent;
-    knows = record {
-      got = s.knows.got;
-      jobs_view = e ∙ s.knows.jobs_view;
-      replies_view = s.knows.replies_view;
-      of_one = s.knows.of_one;
-      each_answered = s.knows.each_answered;
-    };
-    finished_last = closed_without s.sent s.unfinished;
-  }
+  ended_unsent j' e = search (rules, arith, closed_without)
 
   -- whether or not the finish was sent
   pub ended_by : (j' : LineView Message) (o : Result (Unit {0}) (Item Message))
@@ -204,48 +149,18 @@ pub told : (a a' : LineId Message) (b b' : LineId Answer) (seat : ℕ) (s s' : L
     → seat_state a b seat s h g o r ≡ old → a' ≡ a → b' ≡ b → s' ≡ s ++ ms → h' ≡ h ++ mh → g' ≡ last → o' ≡ o → r' ≡ r
     → seat_state a' b' seat s' h' g' o' r'
     ≡ seat_state old.jobs old.replies old.seat (old.sent ++ ms) (old.heard ++ mh) last old.sends old.takes
-told a a' b b' seat s s' h h' g g' last o o' r r' old ms mh is p q u v w x y =
-    λ i. record {
-      jobs = (p ∙ ap (λ z. z.jobs) is) i;
-      replies = (q ∙ ap (λ z. z.replies) is) i;
-      seat = ap (λ z. z.seat) is i;
-      sent = (u ∙ ap (λ z. z.sent ++ ms) is) i;
-      heard = (v ∙ ap (λ z. z.heard ++ mh) is) i;
-      gone = w i;
-      sends = (x ∙ ap (λ z. z.sends) is) i;
-      takes = (y ∙ ap (λ z. z.takes) is) i;
-    }
+told a a' b b' seat s s' h h' g g' last o o' r r' old ms mh is p q u v w x y = search (rules, arith)
 
 pub told_none : (a a' : LineId Message) (b b' : LineId Answer) (seat : ℕ) (s s' : List Job) (h h' : List Answer)
     (g o o' r r' : Bool) (old : SeatState) (ms : List Job) → seat_state a b seat s h g o r ≡ old → a' ≡ a → b' ≡ b
     → s' ≡ s ++ ms → h' ≡ h → o' ≡ o → r' ≡ false → seat_state a' b' seat s' h' true o' r'
     ≡ seat_state old.jobs old.replies old.seat (old.sent ++ ms) old.heard true old.sends false
-told_none a a' b b' seat s s' h h' g o o' r r' old ms is p q u v x y =
-    λ i. record {
-      jobs = (p ∙ ap (λ z. z.jobs) is) i;
-      replies = (q ∙ ap (λ z. z.replies) is) i;
-      seat = ap (λ z. z.seat) is i;
-      sent = (u ∙ ap (λ z. z.sent ++ ms) is) i;
-      heard = (v ∙ ap (λ z. z.heard) is) i;
-      gone = true;
-      sends = (x ∙ ap (λ z. z.sends) is) i;
-      takes = y i;
-    }
+told_none a a' b b' seat s s' h h' g o o' r r' old ms is p q u v x y = search (rules, arith)
 
 pub told_nothing : (a a' : LineId Message) (b : LineId Answer) (seat : ℕ) (s s' : List Job) (h : List Answer)
     (g o o' r : Bool) (old : SeatState) → seat_state a b seat s h g o r ≡ old → a' ≡ a → s' ≡ s → o' ≡ o
     → seat_state a' b seat s' h g o' r ≡ old
-told_nothing a a' b seat s s' h g o o' r old is p u x =
-    (λ i. record {
-      jobs = p i;
-      replies = b;
-      seat = seat;
-      sent = u i;
-      heard = h;
-      gone = g;
-      sends = x i;
-      takes = r;
-    }) ∙ is
+told_nothing a a' b seat s s' h g o o' r old is p u x = cc
 
 -- ---- what came of a request
 
@@ -271,8 +186,7 @@ hears_so old new chunk secret (Err None) e = (NoAnswer, e)
 pub hears_gone : (old new : SeatState) (chunk : GoneChunk) (secret : List ℕ) (r : Result Answer (Option Request))
     (heard : Option Answer) → heard ≡ result_ok r → Exchanges old (Gone chunk) secret r new
     → Hears old (chunk_ask chunk) secret heard new
-hears_gone old new chunk secret r heard is e =
-    subst (λ h. Hears old (chunk_ask chunk) secret h new) (sym is) (hears_so old new chunk secret r e)
+hears_gone old new chunk secret r heard is e = search (rules, arith, hears_so)
 
 -- the same, with a drawn secret
 pub hears_drawn : {S : Type 0} (draws : S → List ℕ → S → Type 0) (old new : SeatState × S) (ask : Ask) (secret : List ℕ)

@@ -1,12 +1,11 @@
 -- What the ends of a settlement say together.
 use Rattle.std.proofs.Common.{◌≡◌, ℕ, ◌<◌, ◌==◌, suc, Bool, true, false, true≢false, cond, List, [], ◌∷◌, ◌++◌, length}
-use Rattle.std.proofs.Common.{map, filter, length-append, sym, refl, ap, ◌∙◌, subst, arith, append-nil, append_assoc}
-use Rattle.std.proofs.Common.{get_or, min}
+use Rattle.std.proofs.Common.{map, length-append, sym, refl, ap, ◌∙◌, subst, arith, append-nil, append_assoc}
+use Rattle.std.proofs.Common.{get_or, min, rules}
 use Rattle.std.proofs.lemmas.List.{length-map}
 use Rattle.std.specs.List.{AllByRecursion}
 use Rattle.upload_service.specs.Headline.{HeadlineHolds}
 use Rattle.upload_service.specs.declared.answer.Answer.{Answer}
-use Rattle.upload_service.specs.Requests.{ask_in}
 use Rattle.upload_intake.specs.declared.line.Item.{Item}
 use Rattle.upload_intake.specs.declared.line.LineView.{LineView}
 use Rattle.upload_intake.specs.declared.message.Message.{Message}
@@ -44,57 +43,26 @@ nothing_after (message.Finish ∷ xs) ys f c = empty xs ys c
 all_taken : (seat : ℕ) (taken waiting : List (Item Message)) (sent : List Message)
     → sent ≡ items_of seat (taken ++ waiting) → is_closed sent ≡ true → has_finish (items_of seat taken) ≡ true
     → items_of seat taken ≡ sent
-all_taken seat taken waiting sent e c f =
-    let parts : sent ≡ items_of seat taken ++ items_of seat waiting = e ∙ items_of-append seat taken waiting in
-    let none : items_of seat waiting ≡ [] =
-    nothing_after (items_of seat taken) (items_of seat waiting) f (ap is_closed (sym parts) ∙ c) in
-    sym (parts ∙ ap (λ l. items_of seat taken ++ l) none ∙ append-nil (items_of seat taken))
+all_taken seat taken waiting sent e c f = search (rules, arith, items_of-append, nothing_after, append-nil)
 
 -- of one item in front: its job is of its seat
 jobs_of-add_job : (seat : ℕ) (x : Item Message) (jobs : List TakenJob)
     → jobs_of seat (add_job x.seat x.what jobs) ≡ jobs_in (cond (seat == x.seat) (x.what ∷ []) []) ++ jobs_of seat jobs
-jobs_of-add_job seat x jobs =
-    elim x.what
-    as (λ m. jobs_of seat (add_job x.seat m jobs) ≡ jobs_in (cond (seat == x.seat) (m ∷ []) []) ++ jobs_of seat jobs) [
-      | message.Job request secret ↦ elim (seat == x.seat)
-          as (λ b. map (λ (j : TakenJob). j.job) (cond b (record { seat = x.seat; job = (ask_in request, secret) }
-          ∷ filter (λ (j : TakenJob). seat == j.seat) jobs) (filter (λ (j : TakenJob). seat == j.seat) jobs))
-          ≡ jobs_in (cond b (message.Job request secret ∷ []) []) ++ jobs_of seat jobs) [ true ↦ refl | false ↦ refl ]
-      | message.Wish wish ↦ elim (seat == x.seat) as (λ b. jobs_of seat jobs
-          ≡ jobs_in (cond b (message.Wish wish ∷ []) []) ++ jobs_of seat jobs) [ true ↦ refl | false ↦ refl ]
-      | message.Finish ↦ elim (seat == x.seat) as (λ b. jobs_of seat jobs
-          ≡ jobs_in (cond b (message.Finish ∷ []) []) ++ jobs_of seat jobs) [ true ↦ refl | false ↦ refl ]
-    ]
+jobs_of-add_job seat x jobs = search (rules, arith)
 
 jobs_in-items_of : (seat : ℕ) (x : Item Message) (xs : List (Item Message))
     → jobs_in (items_of seat (x ∷ xs)) ≡ jobs_in (cond (seat == x.seat) (x.what ∷ []) []) ++ jobs_in (items_of seat xs)
-jobs_in-items_of seat x xs =
-    elim (seat == x.seat) as (λ b. jobs_in (map (λ (y : Item Message). y.what)
-    (cond b (x ∷ filter (λ (y : Item Message). seat == y.seat) xs) (filter (λ (y : Item Message). seat == y.seat) xs)))
-    ≡ jobs_in (cond b (x.what ∷ []) []) ++ jobs_in (items_of seat xs)) [
-      | true ↦ elim x.what as (λ m. jobs_in (m ∷ items_of seat xs) ≡ jobs_in (m ∷ []) ++ jobs_in (items_of seat xs))
-          [ message.Job request secret ↦ refl | message.Wish wish ↦ refl | message.Finish ↦ refl ]
-      | false ↦ refl
-    ]
+jobs_in-items_of seat x xs = search (rules, arith)
 
 jobs_of-taken_in : (seat : ℕ) (xs : List (Item Message)) → jobs_of seat (taken_in xs) ≡ jobs_in (items_of seat xs)
 jobs_of-taken_in seat [] = refl
 jobs_of-taken_in seat (x ∷ xs) =
-    jobs_of-add_job seat x (taken_in xs)
-    ∙ ap (λ l. jobs_in (cond (seat == x.seat) (x.what ∷ []) []) ++ l) (jobs_of-taken_in seat xs)
-    ∙ sym (jobs_in-items_of seat x xs)
+    cc (jobs_of-add_job seat x (taken_in xs), jobs_in-items_of seat x xs, jobs_of-taken_in seat xs)
 
 length-answers_to : (seat : ℕ) (steps : List Step)
     → length (answers_to seat steps) ≡ length (jobs_of seat (taken_by steps))
 length-answers_to seat [] = refl
-length-answers_to seat (s ∷ steps) =
-    let ours = λ (y : Step). seat == y.seat in
-    let theirs = λ (j : TakenJob). seat == j.seat in
-    elim (seat == s.seat)
-    as (λ b. length (map (λ (y : Step). y.exchange.answer) (cond b (s ∷ filter ours steps) (filter ours steps)))
-    ≡ length (map (λ (j : TakenJob). j.job) (cond b (record { seat = s.seat; job = (s.exchange.ask, s.exchange.secret) }
-    ∷ filter theirs (taken_by steps)) (filter theirs (taken_by steps)))))
-    [ true ↦ ap suc (length-answers_to seat steps) | false ↦ length-answers_to seat steps ]
+length-answers_to seat (s ∷ steps) = search (rules, arith, length-answers_to seat steps)
 
 module _ {T : Type 0} where
   length-whats : (xs : List (Item T)) → length (whats xs) ≡ length xs

@@ -1,10 +1,9 @@
 -- What the transcripts of a worker's connections tell.
-use Rattle.std.proofs.Common.{◌≡◌, ℕ, List, [], ◌∷◌, ◌++◌, sym, ap, ◌∙◌, subst, ⊎_elim}
+use Rattle.std.proofs.Common.{◌≡◌, ℕ, List, [], ◌∷◌, ◌++◌, sym, ap, ◌∙◌, subst, ⊎_elim, arith, rules}
 use Rattle.std.specs.Prelude.{Some}
 use Rattle.std.specs.List.{AllByRecursion}
 use Rattle.upload_intake.specs.Seats.{SeatState}
-use Rattle.upload_intake.specs.Pools.Working.{Lending, Means, Talk, connection_given, connection_left, Serves, IsLast}
-use Rattle.upload_intake.specs.Pools.Working.{steps}
+use Rattle.upload_intake.specs.Pools.Working.{Lending, Means, Talk, Serves, IsLast}
 use Rattle.upload_intake.specs.Transcripts.{GivesUnused, TellsAll, TranscriptsTellConnections}
 use Rattle.upload_intake.proofs.Working.{behind}
 use Rattle.upload_wire.specs.declared.connection.ConnEnd.TheVariants.{DeskGone}
@@ -16,12 +15,7 @@ whole_of had more all e none = e ∙ ap (λ t. t ++ more) none
 module _ {L : Lending} {S G O : Type 0} (m : Means L S G O) (max_body : ℕ) (unused : GivesUnused L) where
   one_told : (conns mid : L.Conns) (t : Talk m max_body) → L.gives conns (Some (t.reader, t.writer)) mid
       → TellsAll m max_body t
-  one_told conns mid t given =
-      let whole =
-      conversations_told (steps m max_body) max_body (connection_given m max_body t) (connection_left m max_body t)
-      t.end t.conversation in
-      let empty = unused conns mid t.reader t.writer given in
-      record { read = whole_of _ _ _ whole.read empty.0; written = whole_of _ _ _ whole.written empty.1 }
+  one_told conns mid t given = search (rules, arith, conversations_told, whole_of)
 
   all_told : (conns left : L.Conns) (desk new : SeatState × S) (ts : List (Talk m max_body))
       → Serves m max_body conns desk ts left new → AllByRecursion (TellsAll m max_body) ts
@@ -37,5 +31,4 @@ module _ {L : Lending} {S G O : Type 0} (m : Means L S G O) (max_body : ℕ) (un
   )
 
 pub connections_told : {L : Lending} {S G O : Type 0} (m : Means L S G O) → TranscriptsTellConnections m
-connections_told m =
-    λ unused max_body conns left desk new talks s. all_told m max_body unused conns left desk new talks s
+connections_told m = search (rules, arith, all_told)

@@ -1,6 +1,6 @@
 -- What a gate is told over whole conversations.
-use Rattle.std.proofs.Common.{◌≡◌, ℕ, List, [], ◌∷◌, ◌++◌, length, Option, Some, None, sym, refl, ap, subst, inl, inr}
-use Rattle.std.proofs.Common.{⊎_elim}
+use Rattle.std.proofs.Common.{◌≡◌, ℕ, List, [], ◌∷◌, ◌++◌, length, Option, Some, None, sym, refl, ap, subst}
+use Rattle.std.proofs.Common.{arith, rules}
 use Rattle.upload_service.specs.declared.ask.Ask.{Ask}
 use Rattle.upload_service.specs.declared.answer.Answer.{Answer}
 use Rattle.upload_intake.specs.Notices.{Watching}
@@ -38,17 +38,7 @@ module _ {G D : Type 0} (watches : Watching G) (step : Moves D) (gate : D → Ga
   by_end : (max_body : ℕ) (s : Standing D) (new : ConnectionState D) (end : ConnEnd)
       (e : EndsWith step max_body s new end) → (end ≡ DeskGone → ⊥)
       → Along s.desk (answered_last step max_body s new end e) new.desk
-  by_end max_body s new Clean e there = unmoved s.desk new.desk e.2.unasked
-  by_end max_body s new AfterClose e there = one e.0 s.desk new.desk e.1.answered
-  by_end max_body s new AfterBad e there = unmoved s.desk new.desk e.1.unasked
-  by_end max_body s new TooMany e there = one e.0 s.desk new.desk e.1.answered
-  by_end max_body s new DeskGone e there = absurd (there refl)
-  by_end max_body s new (Fault (Conn.Wire fault)) e there = unmoved s.desk new.desk e.1.unasked
-  by_end max_body s new (Fault Conn.Write) e there =
-      elim e as (λ e. Along s.desk (⊎_elim (λ h. h.0 ∷ []) (λ h. []) e) new.desk) [
-        | inl h ↦ one h.0 s.desk new.desk h.1.answered
-        | inr h ↦ unmoved s.desk new.desk h.1.unasked
-      ]
+  by_end max_body s new end e there = search (rules, arith, unmoved, one)
 
   -- a conversation whose desk was there
   pub watched_on : (max_body : ℕ) (old new : ConnectionState D) (end : ConnEnd)

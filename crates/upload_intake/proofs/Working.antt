@@ -1,5 +1,5 @@
 -- What a worker's loop keeps, and what all its conversations added to its seat.
-use Rattle.std.proofs.Common.{◌≡◌, ℕ, ◌+◌, min, Bool, true, false, true≢false, List, [], ◌∷◌, ◌++◌, length, filter}
+use Rattle.std.proofs.Common.{◌≡◌, ℕ, ◌+◌, min, Bool, true, false, true≢false, List, [], ◌∷◌, ◌++◌, length}
 use Rattle.std.proofs.Common.{cond, Option, Some, None, sym, refl, ap, ◌∙◌, subst, inl, inr, ◌⊎◌, ⊎_elim, append-nil}
 use Rattle.std.proofs.Common.{append_assoc, length-append, arith}
 use Rattle.std.proofs.lemmas.List.Elements.{filter-append}
@@ -175,20 +175,10 @@ module _ {D E : Type 0} (step : Moves D) (seen : Moves E) (see : D → E)
 -- ---- ends
 
 pub behind : (end : ConnEnd) (A B : Type 0) → Behind end A B → ((end ≡ DeskGone) × A) ⊎ ((end ≡ DeskGone → ⊥) × B)
-behind Clean A B x = inr ((λ same. cc), x)
-behind AfterClose A B x = inr ((λ same. cc), x)
-behind AfterBad A B x = inr ((λ same. cc), x)
-behind TooMany A B x = inr ((λ same. cc), x)
-behind DeskGone A B x = inl (refl, x)
-behind (Fault fault) A B x = inr ((λ same. cc), x)
+behind end A B x = search (rules, arith)
 
 goes_on : (end : ConnEnd) (A B : Type 0) → (end ≡ DeskGone → ⊥) → B → Behind end A B
-goes_on Clean A B there x = x
-goes_on AfterClose A B there x = x
-goes_on AfterBad A B there x = x
-goes_on TooMany A B there x = x
-goes_on DeskGone A B there x = absurd (there refl)
-goes_on (Fault fault) A B there x = x
+goes_on end A B there x = search (rules, arith)
 
 is_over : (end : ConnEnd) (A B : Type 0) → end ≡ DeskGone → A → Behind end A B
 is_over end A B gone x = subst (λ e. Behind e A B) (sym gone) x
@@ -197,23 +187,12 @@ pub not_gone : (end : ConnEnd) → is_gone end ≡ false → end ≡ DeskGone �
 not_gone end there gone = true≢false (sym (ap is_gone gone) ∙ there)
 
 pub gone_is : (end : ConnEnd) → is_gone end ≡ true → end ≡ DeskGone
-gone_is Clean gone = absurd (true≢false (sym gone))
-gone_is AfterClose gone = absurd (true≢false (sym gone))
-gone_is AfterBad gone = absurd (true≢false (sym gone))
-gone_is TooMany gone = absurd (true≢false (sym gone))
-gone_is DeskGone gone = refl
-gone_is (Fault fault) gone = absurd (true≢false (sym gone))
+gone_is end gone = search (rules, arith)
 
 module _ {D : Type 0} (step : Moves D) (max_body : ℕ) (s : wire.Standing D) (new : ConnectionState D) where
   all_heard : (end : ConnEnd) (e : EndsWith step max_body s new end) → (end ≡ DeskGone → ⊥)
       → unanswered_last step max_body s new end e ≡ []
-  all_heard Clean e there = refl
-  all_heard AfterClose e there = refl
-  all_heard AfterBad e there = refl
-  all_heard TooMany e there = refl
-  all_heard DeskGone e there = absurd (there refl)
-  all_heard (Fault (Conn.Wire fault)) e there = refl
-  all_heard (Fault Conn.Write) e there = refl
+  all_heard end e there = search (rules, arith)
 
 -- ---- the history
 
@@ -235,50 +214,24 @@ module _ {L : Lending} {S G O : Type 0} (m : Means L S G O) (max_body : ℕ) whe
   one_more : (conns : L.Conns) (desk : SeatState × S) (ts : List (Talk m max_body)) (conns' : L.Conns)
       (desk' : SeatState × S) → SoFar conns desk ts conns' desk' → (t : Talk m max_body) (back : L.Conns)
       → Passes conns' t back → t.old ≡ desk' → (t.end ≡ DeskGone → ⊥) → SoFar conns desk (ts ++ t ∷ []) back t.new
-  one_more conns desk [] conns' desk' so t back passed stands there =
-      let p : Passes conns t back = subst (λ c. Passes c t back) so.0 passed in
-      (p.0, back, p.1, p.2, stands ∙ so.1, there, (refl, refl))
+  one_more conns desk [] conns' desk' so t back passed stands there = search (rules, arith)
   one_more conns desk (u ∷ us) conns' desk' so t back passed stands there =
-      (so.0, so.1, so.2, so.3, so.4, so.5, one_more so.1 u.new us conns' desk' so.6 t back passed stands there)
+      search (rules, arith, one_more so.1 u.new us conns' desk' so.6 t back passed stands there)
 
   none_came : (conns : L.Conns) (desk : SeatState × S) (ts : List (Talk m max_body)) (conns' : L.Conns)
       (desk' : SeatState × S) → SoFar conns desk ts conns' desk' → (left : L.Conns) → L.gives conns' None left
       → Serves m max_body conns desk ts left desk'
   none_came conns desk [] conns' desk' so left given = (subst (λ c. L.gives c None left) so.0 given, so.1)
-  none_came conns desk (u ∷ us) conns' desk' so left given = (
-    so.0,
-    so.1,
-    so.2,
-    so.3,
-    so.4,
-    goes_on u.end (IsLast m max_body so.1 u us left desk') (Serves m max_body so.1 u.new us left desk') so.5
-        (none_came so.1 u.new us conns' desk' so.6 left given),
-  )
+  none_came conns desk (u ∷ us) conns' desk' so left given =
+      search (rules, arith, goes_on, none_came so.1 u.new us conns' desk' so.6 left given)
 
   gone_at : (conns : L.Conns) (desk : SeatState × S) (ts : List (Talk m max_body)) (conns' : L.Conns)
       (desk' : SeatState × S) → SoFar conns desk ts conns' desk' → (t : Talk m max_body) (back : L.Conns)
       → Passes conns' t back → t.old ≡ desk' → t.end ≡ DeskGone
       → Serves m max_body conns desk (ts ++ t ∷ []) back t.new
-  gone_at conns desk [] conns' desk' so t back passed stands gone =
-      let p : Passes conns t back = subst (λ c. Passes c t back) so.0 passed in (
-        p.0,
-        back,
-        p.1,
-        p.2,
-        stands ∙ so.1,
-        is_over t.end (IsLast m max_body back t [] back t.new) (Serves m max_body back t.new [] back t.new) gone
-            (refl, refl, refl),
-      )
-  gone_at conns desk (u ∷ us) conns' desk' so t back passed stands gone = (
-    so.0,
-    so.1,
-    so.2,
-    so.3,
-    so.4,
-    goes_on u.end (IsLast m max_body so.1 u (us ++ t ∷ []) back t.new)
-        (Serves m max_body so.1 u.new (us ++ t ∷ []) back t.new) so.5
-        (gone_at so.1 u.new us conns' desk' so.6 t back passed stands gone),
-  )
+  gone_at conns desk [] conns' desk' so t back passed stands gone = search (rules, arith, is_over)
+  gone_at conns desk (u ∷ us) conns' desk' so t back passed stands gone =
+      search (rules, arith, goes_on, gone_at so.1 u.new us conns' desk' so.6 t back passed stands gone)
 
   -- all that was asked and answered was added to the seat
   fills_by : (t : Talk m max_body) → Adds t.old.0 t.new.0 (answered_on m max_body t) (unanswered_on m max_body t)
@@ -323,22 +276,17 @@ module _ {L : Lending} {S G O : Type 0} (m : Means L S G O) (max_body : ℕ) whe
   answered_more : (ts : List (Talk m max_body)) (t : Talk m max_body)
       → all_answered m max_body (ts ++ t ∷ []) ≡ all_answered m max_body ts ++ answered_on m max_body t
   answered_more [] t = append-nil (answered_on m max_body t)
-  answered_more (u ∷ us) t =
-      ap (λ l. answered_on m max_body u ++ l) (answered_more us t)
-      ∙ sym (append_assoc (answered_on m max_body u) (all_answered m max_body us) (answered_on m max_body t))
+  answered_more (u ∷ us) t = simp (append_assoc, answered_more us t)
 
   unanswered_more : (ts : List (Talk m max_body)) (t : Talk m max_body)
       → all_unanswered m max_body (ts ++ t ∷ []) ≡ all_unanswered m max_body ts ++ unanswered_on m max_body t
   unanswered_more [] t = append-nil (unanswered_on m max_body t)
-  unanswered_more (u ∷ us) t =
-      ap (λ l. unanswered_on m max_body u ++ l) (unanswered_more us t)
-      ∙ sym (append_assoc (unanswered_on m max_body u) (all_unanswered m max_body us) (unanswered_on m max_body t))
+  unanswered_more (u ∷ us) t = simp (append_assoc, unanswered_more us t)
 
   tells_more : (ts : List (Talk m max_body)) (t : Talk m max_body) (es fs : List Event) → TellsTalks m max_body ts es
       → TellsTalk m max_body t fs → TellsTalks m max_body (ts ++ t ∷ []) (es ++ fs)
   tells_more [] t es fs h k = (fs, [], k, refl, ap (λ l. l ++ fs) h ∙ sym (append-nil fs))
-  tells_more (u ∷ us) t es fs h k =
-      (h.0, h.1 ++ fs, h.2, tells_more us t h.1 fs h.3 k, ap (λ l. l ++ fs) h.4 ∙ append_assoc h.0 h.1 fs)
+  tells_more (u ∷ us) t es fs h k = search (rules, arith, append_assoc, tells_more us t h.1 fs h.3 k)
 
   -- where a worker's loop stands: its connections, its seat with its secrets, its gate, its observer, and its counts
   pub record Standing : Type 0 where
@@ -383,11 +331,7 @@ module _ {L : Lending} {S G O : Type 0} (m : Means L S G O) (max_body : ℕ) whe
 
   count_more : (ts : List (Talk m max_body)) (t : Talk m max_body)
       → count_clean m max_body (ts ++ t ∷ []) ≡ count_clean m max_body ts + cond (is_clean t.end) 1 0
-  count_more ts t =
-      ap length (filter-append (λ (t : Talk m max_body). is_clean t.end) ts (t ∷ []))
-      ∙ length-append (filter (λ (t : Talk m max_body). is_clean t.end) ts)
-      (filter (λ (t : Talk m max_body). is_clean t.end) (t ∷ []))
-      ∙ ap (λ n. count_clean m max_body ts + n) (clean_step (is_clean t.end) t)
+  count_more ts t = simp (filter-append, length-append, clean_step)
 
   abbrev pub at_first : Lent L S G O → SeatState → Standing
   at_first lent seat = record {
@@ -446,11 +390,7 @@ module _ {L : Lending} {S G O : Type 0} (m : Means L S G O) (max_body : ℕ) whe
       told_too : (gate : GateAt G) → WatchesEach m.watches at.gate (answered_on m max_body t) gate
           → WatchesEach m.watches (record { gate = lent.gate; turn = 0 }) (all_answered m max_body (w.talks ++ t ∷ []))
           gate
-      told_too gate told =
-          subst (λ l. WatchesEach m.watches (record { gate = lent.gate; turn = 0 }) l gate)
-          (sym (answered_more w.talks t))
-          (each_twice m.watches (record { gate = lent.gate; turn = 0 }) at.gate gate (all_answered m max_body w.talks)
-          (answered_on m max_body t) w.watched told)
+      told_too gate told = search (rules, arith, answered_more, each_twice)
 
       lost_too : all_unanswered m max_body (w.talks ++ t ∷ []) ≡ unanswered_on m max_body t
       lost_too = unanswered_more w.talks t ∙ ap (λ l. l ++ unanswered_on m max_body t) w.none_lost
@@ -460,23 +400,8 @@ module _ {L : Lending} {S G O : Type 0} (m : Means L S G O) (max_body : ℕ) whe
 
       pub talked : WatchesEach m.watches at.gate (answered_on m max_body t) next.gate → (t.end ≡ DeskGone → ⊥)
           → Working lent seat next
-      talked told there = record {
-        talks = w.talks ++ t ∷ [];
-        so_far =
-            subst (SoFar lent.conns (seat, lent.secrets) (w.talks ++ t ∷ []) next.conns) (sym left_so)
-            (one_more lent.conns (seat, lent.secrets) w.talks at.conns at.desk w.so_far t next.conns passed stands
-            there);
-        watched = told_too next.gate told;
-        none_lost =
-            lost_too
-            ∙ all_heard (steps m max_body) max_body (stood t) (connection_left m max_body t) t.end t.conversation.ended
-            there;
-        events = w.events ++ more;
-        tells = tells_more w.talks t w.events more w.tells tells;
-        heard = heard_too;
-        counted = counted;
-        clean_ones = clean_ones;
-      }
+      talked told there =
+          search (rules, arith, one_more, told_too, lost_too, all_heard, tells_more, heard_too, counted, clean_ones)
 
       pub ends_gone : (gate : GateAt G) → WatchesEach m.watches at.gate (answered_on m max_body t) gate
           → WatchesLast m.watches gate (unanswered_on m max_body t) next.gate.gate → t.end ≡ DeskGone
@@ -508,8 +433,7 @@ module _ {L : Lending} {S G O : Type 0} (m : Means L S G O) (max_body : ℕ) whe
       → IsTold (rules (GatedSteps {R = R} m.draws m.watches) m.told max_body)
       (sides (L.reads reader) old was (L.writes writer)) (sides (L.reads reader_left) new is (L.writes writer_left)) end
   at_limit {R} reader reader_left writer writer_left old new was is end limit same told =
-      subst (λ (n : ℕ). IsTold (rules (GatedSteps {R = R} m.draws m.watches) m.told n) (sides (L.reads reader) old was
-      (L.writes writer)) (sides (L.reads reader_left) new is (L.writes writer_left)) end) same told
+      search (rules, arith, GatedSteps)
 
   module _ {R : Type 0} (reader reader_left : L.In) (writer writer_left : L.Out) (old new : GatedDesk R S G)
       (was is : O) (end : ConnEnd)

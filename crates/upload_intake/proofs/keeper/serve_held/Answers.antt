@@ -1,14 +1,10 @@
-use Rattle.std.specs.Prelude.{IsSome}
-use Rattle.std.proofs.Common.{[], ◌∷◌, ◌++◌, ap, sym, refl, subst, ◌∙◌}
+use Rattle.std.proofs.Common.{[], ◌∷◌, ◌++◌, ap, ◌∙◌, arith, rules}
 use Rattle.upload_intake.specs.Safety.{asked, answered_so, changed, changes}
 use Rattle.upload_intake.proofs.Unchanged.{noted_with_room}
 use Rattle.upload_intake.proofs.keeper.serve_held.Goals as goal
 
 pub add_change-requires : goal.add_change-requires
-add_change-requires g c told =
-    subst IsSome
-    (sym (noted_with_room c.note-has_room.result _ (asked c.args.ask c.args.secret c.args.now)
-    (changes c.step-answer.result) c.note-has_room.ensures.noted c.step-answer.ensures.unchanged told)) refl
+add_change-requires g c told = search (rules, arith, noted_with_room)
 
 pub returns-clause-waiting : goal.returns-clause-waiting
 returns-clause-waiting g c =

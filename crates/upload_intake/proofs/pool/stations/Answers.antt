@@ -1,3 +1,4 @@
+use Rattle.std.proofs.lemmas.Grind.{common_steps}
 use Rattle.std.proofs.Common.{◌≡◌, ◌<◌, ℕ, ◌++◌, ap, ◌∙◌, sym, subst, length, get_or, arith}
 use Rattle.std.proofs.lemmas.List.{map-append}
 use Rattle.std.specs.Vec.Iter.{into_iter_items}
@@ -30,17 +31,7 @@ loop-worker-preserved g c =
     }
 
 pub returns-clause-seats : goal.returns-clause-seats
-returns-clause-seats g c =
-    let was = c.loop-worker.invariant in
-    all_done (seats_of c.loop-worker.stations.items) (into_iter_items c.loop-worker.seats)
-    (into_iter_items c.into_iter-seats.result) was.seats
-    (was.len ∙ sym c.loop-worker.worker-iterator.rest.ok.0 ∙ c.in-None.ensures.steps.0)
-    ∙ c.into_iter-seats.ensures.rest
+returns-clause-seats g c = grind (arith, common_steps, all_done)
 
 pub returns-clause-workers : goal.returns-clause-workers
-returns-clause-workers g c =
-    let was = c.loop-worker.invariant in
-    all_done (workers_of c.loop-worker.stations.items) (into_iter_items c.loop-worker.worker-iterator)
-    (into_iter_items c.into_iter-worker-iterator.result) was.workers
-    (sym c.loop-worker.worker-iterator.rest.ok.0 ∙ c.in-None.ensures.steps.0)
-    ∙ c.into_iter-worker-iterator.ensures.into_iter_gives.0
+returns-clause-workers g c = grind (arith, common_steps, all_done)

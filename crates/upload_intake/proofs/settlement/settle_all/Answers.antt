@@ -1,3 +1,4 @@
+use Rattle.std.proofs.Common.{arith, rules}
 use Rattle.std.proofs.Common.{◌≡◌, ◌<◌, ◌+◌, ℕ, List, [], ◌∷◌, ◌++◌, ap, ◌∙◌, sym, subst, length, length-append, get_or}
 use Rattle.crossbeam_channel.specs.Claims.{view}
 use Rattle.crossbeam_channel.specs.Ends.{receives_on}
@@ -11,12 +12,7 @@ use Rattle.upload_intake.proofs.Settling.{next_seat, its_line, next_settled, all
 use Rattle.upload_intake.proofs.settlement.settle_all.Goals as goal
 
 pub settle_seat-requires-clause-jobs : goal.settle_seat-requires-clause-jobs
-settle_seat-requires-clause-jobs c =
-    let was = c.loop-end.invariant in
-    let seat =
-    next_seat c.args.served c.args.ends.items c.requires was.done (into_iter_items c.next.new.self) c.in-Some.end
-    (ap (λ l. was.done ++ l) (sym c.in-Some.ensures.steps.0) ∙ was.ends) in
-    was.line ∙ sym seat.jobs
+settle_seat-requires-clause-jobs c = search (rules, arith, next_seat)
 
 pub settle_seat-requires-clause-replies : goal.settle_seat-requires-clause-replies
 settle_seat-requires-clause-replies c =

@@ -1,4 +1,4 @@
-use Rattle.std.proofs.Common.{refl, sym, ◌∙◌, subst, rules, true≢false}
+use Rattle.std.proofs.Common.{refl, sym, ◌∙◌, subst, rules, true≢false, arith}
 use Rattle.upload_intake.specs.Desks.{seat_of}
 use Rattle.upload_intake.specs.Seats.{SeatState, IsSameSeat}
 use Rattle.upload_intake.specs.Pools.Working.{lending, means}
@@ -10,21 +10,7 @@ use Rattle.upload_intake.proofs.work.serve_seat.Goals.{in-None, in-Some+in_defau
 use Rattle.upload_intake.proofs.work.serve_seat.Goals.{in-Some+in-Some-next_conn+then-is_gone}
 
 pub loop-init : goal.loop-init
-loop-init g c =
-    let m =
-    means (lending g.C.Conns.gives g.C.Conns.takes_back g.C.In.ByteSource.state g.C.Out.ByteSink.state)
-    g.S.Secrets.draws g.G.Gate.watches
-    g.O.Observer.told in
-    let max = c.args.server.max_body in
-    record {
-      seat = subst (λ s. IsSameSeat c.args.seat s) (sym c.new.ensures.seat) (same_seat c.args.seat);
-      working =
-          subst (λ (d : SeatState × g.row.S.Denot). Working m max c.args.worker c.args.seat
-          (record (at_first m max c.args.worker c.args.seat) { desk = d }))
-          (λ i. (sym c.new.ensures.seat i, sym c.new.ensures.secrets i))
-          (begins m max c.args.worker c.args.seat);
-      limit = refl;
-    }
+loop-init g c = search (rules, arith, same_seat, Working, at_first, begins)
 
 pub loop-preserved : goal.loop-preserved
 loop-preserved g c =

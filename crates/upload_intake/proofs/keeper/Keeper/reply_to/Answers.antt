@@ -1,11 +1,8 @@
-use Rattle.std.proofs.Common.{sym, ap, ◌∙◌, subst, refl, arith}
+use Rattle.std.proofs.Common.{sym, subst, refl, arith, rules}
 use Rattle.std.proofs.Math.Seq.{map-set_same}
 use Rattle.crossbeam_channel.specs.Claims.{view}
-use Rattle.crossbeam_channel.specs.Ends.{sends_on, receives_on}
 use Rattle.upload_intake.specs.Kept.{KeepsSeat, outlet_of}
 use Rattle.upload_intake.specs.Log.{steps_of}
-use Rattle.upload_intake.specs.Passes.{line_of}
-use Rattle.upload_intake.specs.Replies.{replies_on}
 use Rattle.upload_intake.specs.Safety.{Follows}
 use Rattle.upload_intake.specs.Pools.Served.{KeeperState}
 use Rattle.upload_intake.proofs.KeeperMoves.{sent_seat}
@@ -34,16 +31,4 @@ invariant_of-self g c =
     c.reply_held.ensures.sent c.reply_held.ensures.done _ refl
 
 pub returns : goal.returns
-returns g c =
-    let books = c.self.inside.books in
-    let same =
-    map-set_same replies_on books.lines.items c.args.seat c.reply_held.new.self c.index_mut.result.now
-    (ap (λ s. line_of (sends_on s)) c.reply_held.ensures.line ∙ ap replies_on c.index_mut.ensures.value) in
-    (λ i. record {
-      jobs = line_of (receives_on books.jobs.receiver);
-      replies = same i;
-      start = books.start.value;
-      since = books.since;
-      service = books.service;
-      log = steps_of books.log;
-    }) ∙ c.self.view_is
+returns g c = search (rules, arith, map-set_same)

@@ -1,14 +1,11 @@
-use Rattle.std.proofs.Common.{arith, refl, ap, sym, ◌∙◌, subst, append_assoc, [], ◌∷◌, ◌++◌}
+use Rattle.std.proofs.Common.{arith, refl, ap, sym, ◌∙◌, subst, append_assoc, [], ◌∷◌, ◌++◌, rules}
 use Rattle.std.proofs.Math.Seq.{map-set_same}
-use Rattle.crossbeam_channel.specs.Ends.{sends_on, receives_on}
 use Rattle.upload_intake.proofs.KeeperMoves.{served_seat, wish_taken, finished_seat, logged, grows_one}
 use Rattle.upload_intake.proofs.Safely.{follows_more, follows_still, kept_none}
 use Rattle.upload_service.specs.Run.{Exchange}
 use Rattle.upload_service.specs.Requests.{ask_in}
 use Rattle.upload_intake.specs.Safety.{Follows, changed}
 use Rattle.upload_intake.specs.Log.{Step, exchanges_of, last_moment}
-use Rattle.upload_intake.specs.Passes.{line_of}
-use Rattle.upload_intake.specs.Replies.{replies_on}
 use Rattle.upload_intake.specs.Pools.Served.{KeeperState}
 use Rattle.upload_intake.proofs.keeper.Keeper.turn.Goals as goal
 
@@ -39,27 +36,10 @@ invariant_of-self-in-Finish g c =
     c.index_mut-in-Finish.ensures.value refl _ refl
 
 pub returns-in-Job-clause-same : goal.returns-in-Job-clause-same
-returns-in-Job-clause-same g c = record {
-  jobs = ap (λ r. line_of (receives_on r)) c.take_if.ensures.line ∙ ap (λ (k : KeeperState). k.jobs) c.self.view_is;
-  replies =
-      map-set_same replies_on c.self.inside.books.lines.items c.in-Some.item.seat c.hold.new.self
-      c.index_mut.result.now
-      (ap (λ s. line_of (sends_on s)) c.hold.ensures.line ∙ ap replies_on c.index_mut.ensures.value)
-      ∙ ap (λ (k : KeeperState). k.replies) c.self.view_is;
-  start = ap (λ (k : KeeperState). k.start) c.self.view_is;
-  since = ap (λ (k : KeeperState). k.since) c.self.view_is;
-}
+returns-in-Job-clause-same g c = grind (arith, map-set_same)
 
 pub returns-in-Finish-clause-same : goal.returns-in-Finish-clause-same
-returns-in-Finish-clause-same g c = record {
-  jobs = ap (λ r. line_of (receives_on r)) c.take_if.ensures.line ∙ ap (λ (k : KeeperState). k.jobs) c.self.view_is;
-  replies =
-      map-set_same replies_on c.self.inside.books.lines.items c.in-Some.item.seat _ c.index_mut-in-Finish.result.now
-      (ap replies_on c.index_mut-in-Finish.ensures.value)
-      ∙ ap (λ (k : KeeperState). k.replies) c.self.view_is;
-  start = ap (λ (k : KeeperState). k.start) c.self.view_is;
-  since = ap (λ (k : KeeperState). k.since) c.self.view_is;
-}
+returns-in-Finish-clause-same g c = search (rules, arith, map-set_same)
 
 pub returns-in-Job-clause-grows : goal.returns-in-Job-clause-grows
 returns-in-Job-clause-grows g c =
@@ -160,12 +140,7 @@ returns-in-Job-clause-since g c =
     }
 
 pub returns-in-Wish-clause-follows : goal.returns-in-Wish-clause-follows
-returns-in-Wish-clause-follows g c =
-    follows_still _ _ _ _ _ _ c.args.self.now _ c.requires.follows refl refl refl
-    (ap (λ (k : KeeperState). k.since) c.self.view_is)
-    (c.grant-told.ensures ∙ ap (λ (k : KeeperState). k.service) c.self.view_is)
-    (ap (λ (k : KeeperState). k.log) c.self.view_is)
+returns-in-Wish-clause-follows g c = search (rules, arith, follows_still)
 
 pub returns-in-Wish-clause-since : goal.returns-in-Wish-clause-since
-returns-in-Wish-clause-since g c =
-    kept_none _ _ _ _ (ap (λ (k : KeeperState). k.log) c.self.view_is) refl
+returns-in-Wish-clause-since g c = search (rules, arith, kept_none)

@@ -1,17 +1,10 @@
-use Rattle.std.proofs.Common.{refl, ◌∙◌}
+use Rattle.std.proofs.Common.{◌∙◌, arith, rules}
 use Rattle.upload_intake.proofs.KeeperMoves.{grows_twice, same_keeper_twice}
 use Rattle.upload_intake.proofs.Safely.{kept_twice}
 use Rattle.upload_intake.proofs.keeper.Keeper.turns.Goals as goal
 
 pub loop-init : goal.loop-init
-loop-init g c = record {
-  same = c.turn.ensures.same;
-  grows = c.turn.ensures.grows;
-  start = c.turn.ensures.start;
-  kept = c.turn.ensures.kept;
-  follows = c.turn.ensures.follows;
-  since = c.turn.ensures.since;
-}
+loop-init g c = search (rules, arith)
 
 pub loop-preserved : goal.loop-preserved
 loop-preserved g c = record {
@@ -25,10 +18,7 @@ loop-preserved g c = record {
 }
 
 pub returns-then-not-turn_soon-clause-grows : goal.returns-then-not-turn_soon-clause-grows
-returns-then-not-turn_soon-clause-grows g c =
-    grows_twice g.M.Moments.tells _ _ _ _ _ _ c.loop.invariant.same.since c.loop.invariant.grows
-    c.turn_soon.ensures.grows
+returns-then-not-turn_soon-clause-grows g c = search (rules, arith, grows_twice)
 
 pub returns-then-not-turn_soon-clause-since : goal.returns-then-not-turn_soon-clause-since
-returns-then-not-turn_soon-clause-since g c =
-    kept_twice _ _ _ _ _ _ c.loop.invariant.since c.turn_soon.ensures.since
+returns-then-not-turn_soon-clause-since g c = search (rules, arith, kept_twice)

@@ -1,4 +1,4 @@
-use Rattle.std.proofs.Common.{sym, ap, ◌∙◌, [], ◌∷◌, ◌++◌}
+use Rattle.std.proofs.Common.{sym, ap, ◌∙◌, [], ◌∷◌, ◌++◌, arith, rules}
 use Rattle.crossbeam_channel.specs.Claims.{view}
 use Rattle.crossbeam_channel.specs.Ends.{sends_on, receives_on}
 use Rattle.upload_intake.specs.Passes.{line_of, whats}
@@ -6,12 +6,10 @@ use Rattle.upload_intake.proofs.SeatMoves.{answered, unanswered, one_more_sent, 
 use Rattle.upload_intake.proofs.seat.Seat.exchange.Goals as goal
 
 pub invariant_of-self-in-Some : goal.invariant_of-self-in-Some
-invariant_of-self-in-Some g c =
-    answered _ _ _ _ c.self.invariant c.if-self.false _ _ _ _ _ c.in_default.ensures.sent c.in-Some.ensures.taken
+invariant_of-self-in-Some g c = search (rules, arith, answered)
 
 pub invariant_of-self-in-None : goal.invariant_of-self-in-None
-invariant_of-self-in-None g c =
-    unanswered _ _ _ _ c.self.invariant _ _ _ _ c.in_default.ensures.sent c.in-None.ensures.taken
+invariant_of-self-in-None g c = search (rules, arith, unanswered)
 
 pub returns-in-Some : goal.returns-in-Some
 returns-in-Some g c = (

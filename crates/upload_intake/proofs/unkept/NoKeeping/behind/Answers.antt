@@ -18,4 +18,5 @@ returns-clause-follows c =
     ∙ (λ i. changed (exchanges_of (steps_of (sym c.of-2.ensures i))) ++ flat_map recorded_in (sym c.none.ensures i)) in
     subst (λ (y : State × List Exchange × KeeperState). Follows y.0 y.1 18446744073709551615 y.2)
     (λ i. (ap (λ s. s.value) (sym c.of.ensures) i, kept i, c.keeper.view_is i))
-    (follows_alone (keeper_with books) 18446744073709551615 keeps.lawful keeps.run keeps.moments (omega (arith, keeps.last)))
+    (follows_alone (keeper_with books) 18446744073709551615 keeps.lawful keeps.run keeps.moments
+    (omega (arith, keeps.last)))

@@ -1,4 +1,4 @@
-use Rattle.std.proofs.Common.{◌≡◌, ap, ◌∙◌, sym, subst, length}
+use Rattle.std.proofs.Common.{◌≡◌, ap, ◌∙◌, sym, subst, length, arith, rules}
 use Rattle.std.proofs.lemmas.List.{length-map}
 use Rattle.std.specs.Vec.Iter.{into_iter_items}
 use denote.Exit as exit
@@ -97,7 +97,4 @@ returns g c =
     }
 
 pub run_kept-requires : goal.run_kept-requires
-run_kept-requires g c = record {
-  follows = follows_at_first _ _ _ _ c.requires.leads c.requires.begun c.requires.fresh;
-  waiting = c.requires.waiting;
-}
+run_kept-requires g c = search (rules, arith, follows_at_first)
