@@ -1,4 +1,5 @@
 -- A push that ends with 0 was answered over its last connection.
+use Rattle.std.proofs.lemmas.Grind.{common_steps}
 use Rattle.std.proofs.Common.{◌≡◌, ℕ, Bool, true, false, List, [], ◌∷◌, ◌++◌, length, refl, sym, ap, subst, ◌∙◌}
 use Rattle.std.proofs.Common.{arith, rules, append-nil, append_assoc, inl, inr, ◌⊎◌, Option, Some, None}
 use Rattle.std.specs.Prelude.{Result, Ok, Err, ⊤, codes}
@@ -15,7 +16,6 @@ use Rattle.upload_service.specs.declared.ask.Extent.TheVariants.{Absent}
 use Rattle.http_wire.specs.Writing.{Wrote}
 use Rattle.http_wire.specs.declared.writing.WriteFault.{WriteFault}
 use Rattle.upload_client.specs.AskText.{ask_text, wants_head}
-use Rattle.upload_client.specs.AnswerText.{TellsHeard}
 use Rattle.upload_client.specs.TransportText.{WireState, AsksWhere, HearsBehind, ReadsReply}
 use Rattle.upload_client.specs.TransportText.{awaited, refusal_in, stays_open}
 use Rattle.upload_client.specs.declared.heard.Heard.{Heard}
@@ -23,7 +23,6 @@ use Rattle.upload_client.specs.declared.heard.HeardFault.{HeardFault}
 use Rattle.upload_push.specs.Slices.{Push, Attempt, HeardStatus, IsClose, LastIsAnswered, Leads, request}
 use Rattle.upload_push.specs.Slices.{after_all, log_of, logged, push_of}
 use Rattle.upload_push.specs.declared.pusher.PushAsk.{PushAsk}
-use Rattle.upload_push.specs.declared.pusher.PushAsk.TheVariants as asks
 use Rattle.upload_push.specs.declared.pusher.Outcome.TheVariants.{Pushed, Already}
 use Rattle.upload_push.specs.declared.pusher.Phase.{Phase}
 use Rattle.upload_push.specs.declared.pusher.Phase.TheVariants as phases
@@ -77,25 +76,7 @@ heard_whole : (old new : WireState) (ask : Ask) (heard : Heard) (status : ℕ) (
     → old.reader.input.held ≡ [] → new.writer.taken ≡ old.writer.taken ++ ask_text ask old.host
     → ReadsReply (wants_head ask) old.reader reply new.reader → reply ≡ Ok heard → heard.status ≡ status
     → WasAnswered old new ask status
-heard_whole old new ask heard status reply held taken reads is same =
-    let as_heard =
-    subst (λ (r : Result Heard HeardFault). ReadsReply (wants_head ask) old.reader r new.reader) is reads in
-    let text_is : old.reader.input.held ++ as_heard.read.given ≡ as_heard.read.given =
-    ap (λ t. t ++ as_heard.read.given) held in
-    record {
-      reply = as_heard.read.given;
-      taken = taken;
-      given = as_heard.read.gives.told;
-      answers = record {
-        input = new.reader.input;
-        heard = heard;
-        keep = new.reader.keep;
-        tells =
-            subst (λ t. TellsHeard (wants_head ask) t new.reader.input heard new.reader.keep) text_is
-            as_heard.read.found;
-        is_status = same;
-      };
-    }
+heard_whole old new ask heard status reply held taken reads is same = search (rules, arith)
 
 ok_of : (reply : Result Heard HeardFault) (heard : Heard) → Some heard ≡ result_ok reply
     → reply ≡ Ok heard
@@ -108,19 +89,14 @@ by_written : (old new : WireState) (ask : Ask) (heard : Heard) (status : ℕ) (w
     → Wrote old.writer new.writer (ask_text ask old.host) written
     → HearsBehind (awaited written body) (wants_head ask) old (Some heard) new → heard.status ≡ status
     → (status ≡ 200) ⊎ (status ≡ 201) → WasAnswered old new ask status
-by_written old new ask heard status (Ok u) body held wrote hears same ends =
-    heard_whole old new ask heard status hears.0 held wrote.takes.told hears.1 (ok_of hears.0 heard hears.2) same
-by_written old new ask heard status (Err fault) true held wrote hears same ends =
-    absurd (refused_else hears.0 heard hears.2
-    (subst (λ (n : ℕ). (n ≡ 200) ⊎ (n ≡ 201)) (sym same) ends))
-by_written old new ask heard status (Err fault) false held wrote hears same ends =
-    absurd (none-some heard (sym hears.0))
+by_written old new ask heard status (Ok u) body held wrote hears same ends = search (rules, arith, heard_whole, ok_of)
+by_written old new ask heard status (Err fault) true held wrote hears same ends = search (rules, arith, refused_else)
+by_written old new ask heard status (Err fault) false held wrote hears same ends = search (rules, arith, none-some)
 
 by_asked : (goes : Bool) (old new : WireState) (ask : Ask) (heard : Heard) (status : ℕ) → stays_open old ≡ goes
     → AsksWhere goes old ask (Some heard) new → heard.status ≡ status → (status ≡ 200) ⊎ (status ≡ 201)
     → WasAnswered old new ask status
-by_asked true old new ask heard status going asked same ends =
-    by_written old new ask heard status asked.written _ (none_held old going) asked.wrote asked.hears same ends
+by_asked true old new ask heard status going asked same ends = search (rules, arith, by_written, none_held)
 by_asked false old new ask heard status going asked same ends = absurd (none-some heard (sym asked.0))
 
 -- ---- one ask of a push
@@ -135,15 +111,9 @@ gets_host : (host : List ℕ) (kept : Option WireState) (h : List ConnEvent) (wi
 gets_host host (Some k) h wire behind to got = ap (λ (w : WireState). w.host) got.0 ∙ to
 gets_host host None h wire behind to got = ap (λ (w : WireState). w.host) got.0.2
 
-asked_host : (goes : Bool) (old new : WireState) (ask : Ask) (heard : Option Heard) → AsksWhere goes old ask heard new
-    → new.host ≡ old.host
-asked_host true old new ask heard asked = asked.same_host
-asked_host false old new ask heard asked = ap (λ (w : WireState). w.host) asked.1
-
 behind_to : (host : List ℕ) (h : List ConnEvent) (wire : WireState) → wire.host ≡ host
     → KeptTo host (behind_ask h wire).kept
-behind_to host h wire to =
-    cond_case (λ (s : Dialing). KeptTo host s.kept) (stays_open wire) _ _ (λ _. to) (λ _. tt)
+behind_to host h wire to = search (rules, arith, cond_case)
 
 none_to : (host : List ℕ) (kept : Option WireState) → kept ≡ None → KeptTo host kept
 none_to host kept none = subst (KeptTo host) (sym none) tt
@@ -159,14 +129,10 @@ gets_more host None h wire behind got = (made ∷ [], got.1)
 
 gets_none : (host : List ℕ) (kept : Option WireState) (h behind : List ConnEvent) → GetsNone host kept h behind
     → GoesOn h behind
-gets_none host (Some k) h behind got = absurd got
-gets_none host None h behind (inl same) = ([], same ∙ sym (append-nil h))
-gets_none host None h behind (inr (wire, is, more)) = (_, more ∙ append_assoc h (made ∷ []) _)
+gets_none host kept h behind got = search (rules, arith, append-nil, append_assoc)
 
 goes_further : (a b c : List ConnEvent) → GoesOn a b → GoesOn b c → GoesOn a c
-goes_further a b c first second =
-    let both = second.1 ∙ ap (λ (h : List ConnEvent). h ++ second.0) first.1 in
-    (first.0 ++ second.0, both ∙ append_assoc a first.0 second.0)
+goes_further a b c first second = search (rules, arith, append_assoc)
 
 behind_more : (h : List ConnEvent) (wire : WireState) → GoesOn h (behind_ask h wire).history
 behind_more h wire =
@@ -177,21 +143,19 @@ behind_more h wire =
 asks_on : (host : List ℕ) (s : Dialing) (ask : Ask) (heard : Option Heard) (t : Dialing) → KeptTo host s.kept
     → AsksIn host s ask heard t → KeptTo host t.kept × GoesOn s.history t.history
 asks_on host s ask heard t to (inl (wire, new, h, got, asked, is)) =
-    let here = gets_host host s.kept s.history wire h to got in
-    let there = asked_host (stays_open wire) wire new ask heard asked ∙ here in (
-      subst (λ (u : Dialing). KeptTo host u.kept) (sym is) (behind_to host h new there),
-      goes_further s.history h t.history (gets_more host s.kept s.history wire h got)
-          (subst (λ (u : Dialing). GoesOn h u.history) (sym is) (behind_more h new)),
+    grind (
+      arith,
+      gets_host host s.kept s.history wire h to got,
+      behind_to host h new,
+      goes_further s.history h t.history,
+      gets_more host s.kept s.history wire h got,
+      behind_more h new,
     )
-asks_on host s ask heard t to (inr (got, unheard, kept)) =
-    (none_to host t.kept kept, gets_none host s.kept s.history t.history got)
+asks_on host s ask heard t to (inr (got, unheard, kept)) = search (rules, arith, none_to, gets_none)
 
 all_on : (host : List ℕ) (s : Dialing) → KeptTo host s.kept → (log : List Attempt) (t : Dialing)
     → Leads (AsksIn host) s log t → KeptTo host t.kept × GoesOn s.history t.history
-all_on host s to [] t leads = (
-  subst (λ (u : Dialing). KeptTo host u.kept) (sym leads) to,
-  ([], ap (λ (u : Dialing). u.history) leads ∙ sym (append-nil s.history)),
-)
+all_on host s to [] t leads = search (rules, arith, append-nil)
 all_on host s to (e ∷ log) t leads =
     let earlier = all_on host s to log leads.0 leads.1 in
     let here = asks_on host leads.0 e.ask e.heard t earlier.0 leads.2 in
@@ -199,8 +163,7 @@ all_on host s to (e ∷ log) t leads =
 
 -- at the end the connection of the last ask is given back behind all others
 ends_with : (h : List ConnEvent) (wire : WireState) → history_at_end (behind_ask h wire) ≡ with_back h wire
-ends_with h wire =
-    cond_case (λ (s : Dialing). history_at_end s ≡ with_back h wire) (stays_open wire) _ _ (λ _. refl) (λ _. refl)
+ends_with h wire = search (rules, arith, cond_case)
 
 -- a connection that was given back behind all others
 abbrev with_end : List ConnEvent → List ℕ → Bool → List ℕ → List ConnEvent
@@ -212,7 +175,7 @@ answered : (host : List ℕ) (old : List ConnEvent) (s : Dialing) (ask : Ask) (h
     → GoesOn old s.history → KeptTo host s.kept → AsksIn host s ask (Some heard) t → heard.status ≡ status
     → (status ≡ 200) ⊎ (status ≡ 201) → new ≡ history_at_end t → EndsAnswered host ask status old new
 answered host old s ask heard status t new from to (inr (got, unheard, kept)) same ends back =
-    absurd (none-some heard (sym unheard))
+    search (rules, arith, none-some)
 answered host old s ask heard status t new from to (inl (wire, behind, h, got, asked, is)) same ends back =
     let was = by_asked (stays_open wire) wire behind ask heard status refl asked same ends in
     let on = goes_further old s.history h from (gets_more host s.kept s.history wire h got) in
@@ -241,8 +204,7 @@ answered_with : (host : List ℕ) (old : List ConnEvent) (s : Dialing) (ask : As
     → GoesOn old s.history → KeptTo host s.kept → AsksIn host s ask heard t → HeardStatus heard status
     → (status ≡ 200) ⊎ (status ≡ 201) → new ≡ history_at_end t → EndsAnswered host ask status old new
 answered_with host old s ask None status t new from to asked same ends back = absurd same
-answered_with host old s ask (Some h) status t new from to asked same ends back =
-    answered host old s ask h status t new from to asked same ends back
+answered_with host old s ask (Some h) status t new from to asked same ends back = search (rules, arith, answered)
 
 -- the last request was one of this kind, and was answered so
 by_log : (host : List ℕ) (P : Ask → Type 0) (status : ℕ) (old new : List ConnEvent) (s : Dialing)
@@ -277,11 +239,7 @@ all_own p (h ∷ earlier) = own_next p _ h (log_of p earlier) (all_own p earlier
 -- its close is one of the file
 close_of : (p : Push) (q : PushAsk) → IsClose (request p q)
     → (at : List ℕ) × (request p q ≡ Close p.name at Absent (Some p.digest) [])
-close_of p asks.Opening is = grind arith
-close_of p (asks.Chunk at range) is = grind arith
-close_of p (asks.Status at) is = grind arith
-close_of p (asks.Close at) is = (at, refl)
-close_of p asks.Head is = grind arith
+close_of p q is = search (rules, arith)
 
 closed : (host : List ℕ) (p : Push) (old new : List ConnEvent) (ask : Ask) (q : PushAsk) → ask ≡ request p q
     → IsClose ask → EndsAnswered host ask 201 old new
@@ -328,14 +286,11 @@ by_shown : (host : List ℕ) (p : Push) (old new : List ConnEvent) (before after
     → new ≡ history_at_end behind → PrintsPush p.digest (phase_at sight) 0 text → Appends before after (line text)
     → IsAnswered host p old new before after
 by_shown host p old new before after last behind sights.Blob text from seen back told printed =
-    inr (
-      subst (λ (x : List ℕ). Appends before after (line x)) told.1 printed,
-      seen_last host p.name p.digest (length p.file) old new last behind from seen back,
-    )
+    search (rules, arith, seen_last)
 by_shown host p old new before after last behind sights.Other text from seen back told printed =
-    absurd (zero_one told.0)
+    search (rules, arith, zero_one)
 by_shown host p old new before after last behind sights.Nothing text from seen back told printed =
-    absurd (zero_one told.0)
+    search (rules, arith, zero_one)
 
 by_phase : (host : List ℕ) (p : Push) (old new : List ConnEvent) (before after : Option (List ℕ)) (s : Dialing)
     (heard : List (Option Heard)) (last behind : Dialing) (phase shown : Phase) (text : List ℕ)
@@ -355,29 +310,18 @@ by_phase host p old new before after s heard last behind (phases.Done Pushed) sh
     )
 by_phase host p old new before after s heard last behind (phases.Done Already) shown text from to leads back is
     (sight, seen, same) told printed =
-    let on = all_on host s to (log_of p heard) last leads in
-    by_shown host p old new before after last behind sight text
-    (goes_further old s.history last.history from on.1) seen back
-    (subst (λ (q : Phase). PrintsPush p.digest q 0 text) same told) printed
+    grind (arith, common_steps, all_on, by_shown, goes_further)
 by_phase host p old new before after s heard last behind (phases.GaveUp why) shown text from to leads back is shows
     told printed =
-    absurd (zero_one (subst (λ (q : Phase). PrintsPush p.digest q 0 text) shows.0 told).0)
+    search (rules, arith, zero_one)
 by_phase host p old new before after s heard last behind phase shown text from to leads back is shows told printed =
-    absurd (subst (λ (q : Phase). PrintsPush p.digest q 0 text) shows.0 told)
+    search (rules, arith)
 
 -- behind a look that didn't find the blob the history goes on, and a connection that is kept is one to the host
 sight_on : (host name : List ℕ) (digest : Digest) (size : ℕ) (s : Dialing) (sight : Sight) (t : Dialing)
     → AreSeen host name digest size s sight t → KeptTo host t.kept × GoesOn s.history t.history
-sight_on host name digest size s sight t (kept, inl seen) = (
-  none_to host t.kept kept,
-  goes_further s.history (history_at_end s) t.history (end_more s.history s.kept)
-      (_, seen.over ∙ append_assoc (history_at_end s) (made ∷ []) _),
-)
-sight_on host name digest size s sight t (kept, inr (nothing, same)) = (
-  none_to host t.kept kept,
-  goes_further s.history (history_at_end s) t.history (end_more s.history s.kept)
-      ([], same ∙ sym (append-nil (history_at_end s))),
-)
+sight_on host name digest size s sight t h =
+    search (rules, arith, none_to, goes_further, end_more, append_assoc, append-nil)
 
 looked_on : (host name : List ℕ) (digest : Digest) (old : List ConnEvent) (size : ℕ)
     (look : Look host name digest (dialing old)) (mid : Dialing) → IsLooked size look false mid

@@ -1,9 +1,10 @@
 -- A connection that was made, and given back unused; and what is asked over connections, as `upload_push` has it.
-use Rattle.std.proofs.Common.{◌≡◌, ℕ, List, [], ◌∷◌, ◌++◌, Option, Some, None, inl, inr, refl, ap, ◌∙◌, false}
+use Rattle.std.proofs.Common.{rules}
+use Rattle.std.proofs.Common.{◌≡◌, ℕ, List, [], ◌∷◌, ◌++◌, Option, Some, None, inl, inr, refl, ap, ◌∙◌, false, arith}
 use Rattle.http_wire.specs.States.{TranscriptState}
 use Rattle.upload_service.specs.declared.ask.Ask.{Ask}
 use Rattle.upload_client.specs.declared.heard.Heard.{Heard}
-use Rattle.upload_client.specs.TransportText.{WireState, stays_open}
+use Rattle.upload_client.specs.TransportText.{WireState}
 use Rattle.upload_push.specs.Dialed.{AsksDialed, Connects, kept_or, new_wire}
 use Rattle.upload_push.proofs.Cases.{cond_case_both}
 use Rattle.blobd_shared.specs.Connections.{ConnEvent}
@@ -34,24 +35,14 @@ connects_none host (Some k) h behind got = absurd got
 connects_none host None h behind got = tt
 
 kept_behind : (h : List ConnEvent) (wire : WireState) → (behind_ask h wire).kept ≡ kept_or None wire
-kept_behind h wire =
-    cond_case_both (λ (s : Dialing) (k : Option WireState). s.kept ≡ k) (stays_open wire) _ _ _ _ (λ _. refl)
-    (λ _. refl)
+kept_behind h wire = search (rules, arith, cond_case_both)
 
 dialed : (host : List ℕ) (s : Dialing) (ask : Ask) (heard : Option Heard) (t : Dialing) → AsksIn host s ask heard t
     → AsksDialed host s.kept ask heard t.kept
-dialed host s ask heard t (inl (wire, new, h, got, asked, is)) =
-    inl (
-      wire,
-      new,
-      connects host s.kept s.history wire h got,
-      asked,
-      ap (λ (u : Dialing). u.kept) is ∙ kept_behind h new,
-    )
-dialed host s ask heard t (inr (got, unheard, kept)) =
-    inr (connects_none host s.kept s.history t.history got, unheard, kept)
+dialed host s ask heard t (inl (wire, new, h, got, asked, is)) = search (rules, arith, connects, kept_behind)
+dialed host s ask heard t (inr (got, unheard, kept)) = search (rules, arith, connects_none)
 
 pub all_dialed : AsksAreDialed
 all_dialed host before behind [] leads = ap (λ (u : Dialing). u.kept) leads
 all_dialed host before behind (e ∷ log) leads =
-    (leads.0.kept, all_dialed host before leads.0 log leads.1, dialed host leads.0 e.ask e.heard behind leads.2)
+    search (rules, arith, dialed, all_dialed host before leads.0 log leads.1)

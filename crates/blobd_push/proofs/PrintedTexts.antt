@@ -1,5 +1,5 @@
 -- What is printed as text is UTF-8: digests, and codes that are visible ASCII.
-use Rattle.std.proofs.Common.{◌≡◌, ℕ, ◌<◌, List, true, cond, sym, ap, arith}
+use Rattle.std.proofs.Common.{◌≡◌, ℕ, ◌<◌, List, true, cond, sym, ap, arith, rules}
 use Rattle.std.specs.Prelude.{Result, Ok, Err, Some, codes, MatchResult}
 use Rattle.std.specs.Result.{result_unwrap_or}
 use Rattle.std.specs.Char.{is_ascii_graphic}
@@ -17,8 +17,7 @@ use Rattle.blobd_push.specs.Pushed.{is_word, shown_code}
 -- the text of a digest
 pub digest_utf8 : (digest : Digest) → IsDigest digest → IsUtf8 (digest_text digest)
 digest_utf8 digest h =
-    let text = digest_text digest in
-    IsUtf8-from_ascii text (IsAscii-from_all text (ascii_bytes text (IsTarget-plain text (digest_plain digest h))))
+    search (rules, arith, IsUtf8-from_ascii, IsAscii-from_all, ascii_bytes, IsTarget-plain, digest_plain)
 
 graphic_ascii : (b : ℕ) → is_ascii_graphic b ≡ true → b < 128
 graphic_ascii b h = grind (arith, nat_tests)
@@ -26,9 +25,7 @@ graphic_ascii b h = grind (arith, nat_tests)
 -- a visible text
 pub visible_utf8 : (text : List ℕ) → list_all is_ascii_graphic text ≡ true → IsUtf8 text
 visible_utf8 text h =
-    IsUtf8-from_ascii text (IsAscii-from_all text
-    (All-weaker (λ b. is_ascii_graphic b ≡ true) (λ b. b < 128) graphic_ascii text
-    (AllPass-from_list_all is_ascii_graphic text h)))
+    search (rules, arith, IsUtf8-from_ascii, IsAscii-from_all, All-weaker, graphic_ascii, AllPass-from_list_all)
 
 -- bytes that are UTF-8 are read as a text of the same bytes
 pub read_text : {T E : Type 0} (r : Result T E) (now : T → List ℕ) (other : T) (bytes : List ℕ) (P : E → Type 0)

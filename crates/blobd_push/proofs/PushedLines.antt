@@ -1,6 +1,6 @@
 -- The line that a push prints.
 use Rattle.std.proofs.Common.{◌≡◌, ℕ, ◌<◌, List, [], ◌∷◌, length, Option, Some, inl, inr, ◌⊎◌, true, false, refl}
-use Rattle.std.proofs.Common.{sym, ap, subst, arith, ◌∙◌, Bool, ◌≢◌}
+use Rattle.std.proofs.Common.{sym, ap, subst, arith, ◌∙◌, Bool, ◌≢◌, rules}
 use Rattle.std.specs.Prelude.{Result, Ok, Err, codes}
 use Rattle.std.specs.Io.KnownBytes.{Appends}
 use Rattle.std.specs.Net.Text.{socket_text}
@@ -63,12 +63,7 @@ over_them {asked = asked} host state keeps {p} {mid} {new} {end} at same push =
 pub seen_so : {host name : List ℕ} {digest : Digest} {start : Dialing} (size : ℕ) (look : Look host name digest start)
     (sight : Sight) (blob : Bool) (after : Dialing) → true ≡ is_found look.heard → blob ≡ is_blob sight
     → AreSeen host name digest size look.behind sight after → IsLooked size look blob after
-seen_so size look sights.Blob true after found is seen = (sym found, seen)
-seen_so size look sights.Blob false after found is seen = absurd (false_true is)
-seen_so size look sights.Other true after found is seen = absurd (false_true (sym is))
-seen_so size look sights.Other false after found is seen = inr (sym found, sights.Other, refl, seen)
-seen_so size look sights.Nothing true after found is seen = absurd (false_true (sym is))
-seen_so size look sights.Nothing false after found is seen = inr (sym found, sights.Nothing, refl, seen)
+seen_so size look h h1 after found is seen = search (rules, arith, false_true)
 
 -- the same push, of a name that is equal, of the file's digest, to an equal host, and from an equal start
 same_push : (at host own name file : List ℕ) (chunk : ℕ) (digest : Digest) (before start after : Dialing)
@@ -106,10 +101,8 @@ found_line host p old new state before after result look is back (inl (zero, pri
 still_waits : (host : List ℕ) (p : Push) (last : Dialing) (phase : Phase) (behind : Dialing) (shown : Phase)
     → (phase ≡ Opening) ⊎ (phase ≡ GaveUp OutOfTries) → IsShown host p last phase behind shown
     → (shown ≡ Opening) ⊎ (shown ≡ GaveUp OutOfTries)
-still_waits host p last phase behind shown (inl is) shows =
-    inl (subst (λ (q : Phase). IsShown host p last q behind shown) is shows).0
-still_waits host p last phase behind shown (inr is) shows =
-    inr (subst (λ (q : Phase). IsShown host p last q behind shown) is shows).0
+still_waits host p last phase behind shown (inl is) shows = search (rules, arith)
+still_waits host p last phase behind shown (inr is) shows = search (rules, arith)
 
 -- the line of the end of a push
 lined : (host : List ℕ) (p : Push) (old new : List ConnEvent) (mid last behind : Dialing)
@@ -155,19 +148,19 @@ by_sight : (host : List ℕ) (p : Push) (old new : List ConnEvent) (mid last beh
     → IsEndLine p.digest (end_at sight) before after result
     → IsLookedLine host p old new before after result ⊎ (result ≡ 3)
 by_sight host p old new mid last behind sights.Blob before after result look missing push seen back (inr fault) =
-    inr fault
+    search (rules, arith)
 by_sight host p old new mid last behind sights.Blob before after result look missing push seen back
     (inl (zero, printed)) =
     lined host p old new mid last behind (Ok Already) (Done Already) (Done Already) _ before after result look missing
     push (λ q ends. ends) (sights.Blob, seen, refl) back (zero, refl) printed
 by_sight host p old new mid last behind sights.Other before after result look missing push seen back (inr fault) =
-    inr fault
+    search (rules, arith)
 by_sight host p old new mid last behind sights.Other before after result look missing push seen back
     (inl (one, printed)) =
     lined host p old new mid last behind (Ok Already) (Done Already) (GaveUp BadServer) _ before after result look
     missing push (λ q ends. ends) (sights.Other, seen, refl) back (one, refl) printed
 by_sight host p old new mid last behind sights.Nothing before after result look missing push seen back (inr fault) =
-    inr fault
+    search (rules, arith)
 by_sight host p old new mid last behind sights.Nothing before after result look missing push seen back
     (inl (one, printed)) =
     lined host p old new mid last behind (Ok Already) (Done Already) (GaveUp OutOfTries) _ before after result look
@@ -181,21 +174,24 @@ as_it_is : (host : List ℕ) (p : Push) (old new : List ConnEvent) (mid last beh
     → IsEndLine p.digest pushed before after result
     → IsLookedLine host p old new before after result ⊎ (result ≡ 3)
 as_it_is host p old new mid last behind (Ok Pushed) before after result look missing push other same back
-    (inr fault) = inr fault
+    (inr fault) =
+    search (rules, arith)
 as_it_is host p old new mid last behind (Ok Pushed) before after result look missing push other same back
     (inl (zero, printed)) =
     lined host p old new mid last behind (Ok Pushed) (Done Pushed) (Done Pushed) _ before after result look missing
     push (λ q ends. ends) (refl, same) back (zero, refl) printed
 as_it_is host p old new mid last behind (Ok Already) before after result look missing push other same back told =
-    absurd (other refl)
+    search (rules, arith)
 as_it_is host p old new mid last behind (Err (faults.GaveUp why)) before after result look missing push other same back
-    (inr fault) = inr fault
+    (inr fault) =
+    search (rules, arith)
 as_it_is host p old new mid last behind (Err (faults.GaveUp why)) before after result look missing push other same back
     (inl (one, printed)) =
     lined host p old new mid last behind (Err (faults.GaveUp why)) (GaveUp why) (GaveUp why) _ before after result look
     missing push (λ q ends. ends) (refl, same) back (one, refl) printed
 as_it_is host p old new mid last behind (Err faults.NoMemory) before after result look missing push other same back
-    fault = inr fault
+    fault =
+    search (rules, arith)
 
 by_end : (host : List ℕ) (p : Push) (old new : List ConnEvent) (mid last behind : Dialing)
     (pushed end : Result Outcome PushFault) (before after : Option (List ℕ)) (result : ℕ)
@@ -209,7 +205,8 @@ by_end host p old new mid last behind (Ok Already) end before after result look 
     by_sight host p old new mid last behind sight before after result look missing push seen back
     (subst (λ e. IsEndLine p.digest e before after result) is told)
 by_end host p old new mid last behind (Ok Already) end before after result look missing push (inr (is, same)) back
-    told = inr (subst (λ e. IsEndLine p.digest e before after result) is told)
+    told =
+    search (rules, arith)
 by_end host p old new mid last behind (Ok Pushed) end before after result look missing push (is, same) back told =
     as_it_is host p old new mid last behind (Ok Pushed) before after result look missing push
     (λ h. grind arith) same back (subst (λ e. IsEndLine p.digest e before after result) is told)
@@ -227,25 +224,19 @@ by_sent host p old new behind end before after result (inl (look, is, already)) 
     (subst (λ e. IsEndLine p.digest e before after result) already told)
 by_sent host p old new behind end before after result
     (inr (inl (look, mid, last, pushed, missing, push, confirmed))) back told =
-    by_end host p old new mid last behind pushed end before after result look missing push confirmed back told
-by_sent host p old new behind end before after result (inr (inr (lacks, begun))) back told =
-    inr (subst (λ e. IsEndLine p.digest e before after result) lacks told)
+    search (rules, arith, by_end, pushed)
+by_sent host p old new behind end before after result (inr (inr (lacks, begun))) back told = search (rules, arith)
 
 -- what was asked of the host by then, if memory was out or the line couldn't be printed too
 was_looked : {host name : List ℕ} {digest : Digest} {start : Dialing} (size : ℕ) (look : Look host name digest start)
     (found : Bool) (mid : Dialing) → IsLooked size look found mid
     → (mid ≡ look.behind) ⊎ ((sight : Sight) × AreSeen host name digest size look.behind sight mid)
-was_looked size look true mid is = inr (sights.Blob, is.1)
-was_looked size look false mid (inl is) = inl is.1
-was_looked size look false mid (inr is) = inr (is.1, is.3)
+was_looked size look h mid is = search (rules, arith)
 
 was_confirmed : (host name : List ℕ) (digest : Digest) (size : ℕ) (last behind : Dialing)
     (pushed end : Result Outcome PushFault) → IsConfirmed host name digest size last pushed behind end
     → (behind ≡ last) ⊎ ((sight : Sight) × AreSeen host name digest size last sight behind)
-was_confirmed host name digest size last behind (Ok Already) end (inl (sight, seen, is)) = inr (sight, seen)
-was_confirmed host name digest size last behind (Ok Already) end (inr (is, same)) = inl same
-was_confirmed host name digest size last behind (Ok Pushed) end (is, same) = inl same
-was_confirmed host name digest size last behind (Err fault) end (is, same) = inl same
+was_confirmed host name digest size last behind pushed end h = search (rules, arith)
 
 begun : (host : List ℕ) (p : Push) (old new : List ConnEvent) (behind : Dialing) (end : Result Outcome PushFault)
     → IsSent host p (dialing old) behind end → new ≡ history_at_end behind → IsBegun host p old new
@@ -319,8 +310,7 @@ pub no_name : (host name file : List ℕ) (chunk : ℕ) (history : List ConnEven
     → ¬ (IsName name) → IsPrinted (Some (codes "refused: name")) before after 1 result
     → IsPushedOver host name file chunk history history before after result
 no_name host name file chunk history before after result unnamed (inr fault) = inr (fault, inl refl)
-no_name host name file chunk history before after result unnamed (inl (one, printed)) =
-    inl (inl ((unnamed, one, printed), refl))
+no_name host name file chunk history before after result unnamed (inl (one, printed)) = search (rules, arith)
 
 -- a line that tells a fault has its status, printed or not
 pub faulted : {S P : Type 0} → (S × P) ⊎ S → S
