@@ -1,6 +1,7 @@
 -- What a crash leaves of a store, by what its records hold.
-use Rattle.std.proofs.Common.{◌≡◌, ◌⊎◌, ◌∙◌, inl, inr, ℕ, ◌≤◌, max, List, [], ◌∷◌, ◌++◌, map, Option, refl, sym, ap, subst, IsTrue}
-use Rattle.std.proofs.Common.{arith, append-nil}
+use Rattle.std.proofs.Common.{◌≡◌, ◌⊎◌, ◌∙◌, inl, inr, ℕ, ◌≤◌, max, List, [], ◌∷◌, ◌++◌, map, Option, refl, sym, ap}
+use Rattle.std.proofs.Common.{subst, IsTrue}
+use Rattle.std.proofs.Common.{arith, append-nil, rules}
 use Rattle.std.specs.List.{All, flat_map}
 use Rattle.std.proofs.lemmas.List.{map-append}
 use Rattle.std.proofs.lemmas.List.Concat.{flat_map-append}
@@ -41,9 +42,7 @@ module _ {S : Type 0} (held : S → ℕ → Option (List ℕ)) (may_leave : S �
   files_safe : (files : List BodyFile) (bytes : List ℕ) → Joins Safe files bytes
       → All Has (map (λ (file : BodyFile). file.number) files)
   files_safe [] bytes joins = All-nil Has
-  files_safe (file ∷ files) bytes joins =
-      All-cons Has file.number (map (λ (file : BodyFile). file.number) files) (joins.0, joins.3)
-      (files_safe files joins.1 joins.5)
+  files_safe (file ∷ files) bytes joins = search (rules, arith, All-cons, files_safe files joins.1 joins.5)
 
   body_safe : (body : KeptBody) (bytes : List ℕ) → IsBodyOf Safe body bytes → All Has (body_numbers body)
   body_safe (Here body) bytes is = All-nil Has
@@ -101,13 +100,13 @@ pub same_texts : (a b : List Kept) (files held : ℕ → Option (List ℕ)) → 
 same_texts a b files held same = sym (found_texts files a) ∙ ap texts_in same ∙ found_texts held b
 
 pub texts_added : (all : List Kept) (kept : Kept) → texts_of (all ++ kept ∷ []) ≡ texts_of all ++ kept.1
-texts_added all kept =
-    flat_map-append (λ (k : Kept). k.1) all (kept ∷ []) ∙ ap (λ (l : List (List ℕ)). texts_of all ++ l) (append-nil kept.1)
+texts_added all kept = simp (flat_map-append, append-nil)
 
 pub more_texts : (a b : List Kept) (kept : Kept) (files held : ℕ → Option (List ℕ))
     → found a files ≡ found b held ++ batch_in held kept ∷ [] → texts_of a ≡ texts_of b ++ kept.1
 more_texts a b kept files held same =
-    same_texts a (b ++ kept ∷ []) files held (same ∙ sym (map-append (batch_in held) b (kept ∷ []))) ∙ texts_added b kept
+    same_texts a (b ++ kept ∷ []) files held (same ∙ sym (map-append (batch_in held) b (kept ∷ [])))
+    ∙ texts_added b kept
 
 -- ---- crashes
 
@@ -162,9 +161,7 @@ module _ {D S F : Type 0} {g : Ghosts D} {s : shelves.Ghosts S F} {f : Ghosts F}
         (texts_of (kept_of old) ++ texts)
 
     both : IsClean old → Both (shelf_of old) (max upto more)
-    both clean =
-        holds_then (IsSafe s.held s.may_leave (shelf_of old)) (texts_of (kept_of opened)) since kept upto
-        (texts_of (kept_of old)) waiting more texts (settled.holds clean) (awaits clean)
+    both clean = grind (arith, holds_then)
 
     pub all_safe : IsClean old → AreSafe s.held s.may_leave (shelf_of old) texts
     all_safe clean = batch_safe s.held s.may_leave (shelf_of old) waiting more texts (awaits clean)
@@ -203,7 +200,8 @@ module _ {D S F : Type 0} {g : Ghosts D} {s : shelves.Ghosts S F} {f : Ghosts F}
       stays_open = stays;
       whole = λ was_whole clean. whole (settled.whole was_whole) (all_safe (was clean)) clean;
       holds = λ clean.
-          subst (λ (l : List (List ℕ)). Holds (IsSafe s.held s.may_leave (shelf_of new)) (texts_of (kept_of opened)) since
+          subst (λ (l : List (List ℕ)). Holds (IsSafe s.held s.may_leave (shelf_of new)) (texts_of (kept_of opened))
+          since
           (kept ++ waiting) next l) (sym (ap texts_of (grown clean) ∙ texts_added (kept_of old) added))
           (lower (IsSafe s.held s.may_leave (shelf_of new)) (texts_of (kept_of opened)) since (kept ++ waiting)
           (max upto more) next (texts_of (kept_of old) ++ texts) le

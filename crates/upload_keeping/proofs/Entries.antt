@@ -1,16 +1,15 @@
 -- The entry of a request that was drafted.
-use Rattle.std.proofs.Common.{◌≡◌, ◌∙◌, ℕ, ◌<◌, ◌^◌, List, [], ◌∷◌, ◌++◌, length, Option, Some, None, refl, sym, ap, subst}
-use Rattle.std.proofs.Common.{IfSome, IfOk, Result, Ok, Err, option_map}
+use Rattle.std.proofs.Common.{◌≡◌, ◌∙◌, ℕ, ◌<◌, ◌^◌, List, [], ◌∷◌, ◌++◌, length, Option, Some, None, refl, sym, ap}
+use Rattle.std.proofs.Common.{subst}
+use Rattle.std.proofs.Common.{IfSome, IfOk, Result, Ok, option_map, rules}
 use Rattle.std.specs.Prelude.{Bool, is_some, if◌then◌else◌}
 use Rattle.std.proofs.Common.{append-nil, arith}
 use Rattle.upload_names.specs.Digest.{Digest}
 use Rattle.upload_service.specs.declared.ask.Extent.{Extent}
-use Rattle.upload_service.specs.declared.ask.Extent.TheVariants.{Absent, Bad, Given}
 use Rattle.upload_service.specs.declared.ask.Ask.{Ask}
 use Rattle.upload_service.specs.declared.ask.Ask.TheVariants as asks
 use Rattle.upload_journal.specs.declared.body.BodyFile.{BodyFile}
 use Rattle.upload_journal.specs.declared.entries.KeptAsk.{KeptAsk}
-use Rattle.upload_journal.specs.declared.entries.KeptAsk.TheVariants as kept
 use Rattle.upload_service.specs.declared.answer.Answer.{Answer}
 use Rattle.upload_journal.specs.declared.entries.KeptAnswer.{KeptAnswer}
 use Rattle.upload_journal.specs.Entries.{IsKeptAsk, asked_text}
@@ -41,22 +40,11 @@ module _ (stands : ℕ → List ℕ → Type 0) where
 
   body_as : (body : List ℕ) (files : List BodyFile) → IsPut body files
       → IsKeptBody (kept_body body files) × IsBodyOf stands (kept_body body files) body
-  body_as body [] put = (put, refl)
-  body_as body (file ∷ []) put = (
-    (omega arith, omega arith, (put.0, tt)),
-    (body, [], sym (append-nil body), put.1, put.2, refl),
-  )
-  body_as body (file ∷ other ∷ files) put = absurd put
+  body_as body files put = search (rules, arith, append-nil)
 
   is_put : (ask : Ask) (body : List ℕ) (files : List BodyFile) → body_in ask ≡ Some body
       → (IsPlaced ask [] → HasPlace body []) → ArePlaced stands ask files → IsPut body files
-  is_put ask body [] is short placed = short placed
-  is_put ask body (file ∷ []) is short placed =
-      let there =
-      subst (λ (b : Option (List ℕ)). IfSome b (λ bytes. stands file.number bytes × (length bytes ≡ file.len))) is
-      placed.1 in
-      (placed.0, there.0, there.1)
-  is_put ask body (file ∷ other ∷ files) is short placed = absurd placed
+  is_put ask body files is short placed = search (rules, arith)
 
   abbrev IsKeptAs : KeptAsk → Ask → Type 0
   IsKeptAs k ask = IsKeptAsk k × IsAskOf stands k ask
@@ -68,79 +56,49 @@ module _ (stands : ℕ → List ℕ → Type 0) where
       → IsSound (asks.Single name digest body) → ArePlaced stands (asks.Single name digest body) files
       → kept_of (asks.Single name digest body) files ≡ Some k → IsKeptAs k (asks.Single name digest body)
   single_as name None body files k sound placed e = absurd cc
-  single_as name (Some digest) body files k sound placed e =
-      let ask = asks.Single name (Some digest) body in
-      let put = body_as body files (is_put ask body files refl (λ h. h) placed) in
-      as_it_is ask (kept.Single name digest (kept_body body files)) k e
-      ((sound.0, sound.1, put.0), (body, put.1, refl))
+  single_as name (Some digest) body files k sound placed e = search (rules, arith, body_as, is_put, as_it_is)
 
   chunk_as : (name at : List ℕ) (range : Extent) (body : List ℕ) (files : List BodyFile) (k : KeptAsk)
       → IsSound (asks.Chunk name at range body) → ArePlaced stands (asks.Chunk name at range body) files
       → kept_of (asks.Chunk name at range body) files ≡ Some k → IsKeptAs k (asks.Chunk name at range body)
-  chunk_as name at Bad body files k sound placed e = absurd cc
-  chunk_as name at Absent body files k sound placed e =
-      let ask = asks.Chunk name at Absent body in
-      let put = body_as body files (is_put ask body files refl (λ h. h) placed) in
-      as_it_is ask (kept.Chunk name at None (kept_body body files)) k e
-      ((sound.0, sound.1, tt, put.0), (body, put.1, refl))
-  chunk_as name at (Given range) body files k sound placed e =
-      let ask = asks.Chunk name at (Given range) body in
-      let put = body_as body files (is_put ask body files refl (λ h. h) placed) in
-      as_it_is ask (kept.Chunk name at (Some range) (kept_body body files)) k e
-      ((sound.0, sound.1, sound.2, put.0), (body, put.1, refl))
+  chunk_as name at range body files k sound placed e = search (rules, arith, body_as, is_put, as_it_is)
 
   close_as : (name at : List ℕ) (range : Extent) (digest : Option Digest) (body : List ℕ) (files : List BodyFile)
       (k : KeptAsk) → IsSound (asks.Close name at range digest body)
       → ArePlaced stands (asks.Close name at range digest body) files
       → kept_of (asks.Close name at range digest body) files ≡ Some k
       → IsKeptAs k (asks.Close name at range digest body)
-  close_as name at range None body files k sound placed e = absurd cc
-  close_as name at Bad (Some digest) body files k sound placed e = absurd cc
-  close_as name at Absent (Some digest) body files k sound placed e =
-      let ask = asks.Close name at Absent (Some digest) body in
-      let put = body_as body files (is_put ask body files refl (λ h. h) placed) in
-      as_it_is ask (kept.Close name at None digest (kept_body body files)) k e
-      ((sound.0, sound.1, tt, sound.3, put.0), (body, put.1, refl))
-  close_as name at (Given range) (Some digest) body files k sound placed e =
-      let ask = asks.Close name at (Given range) (Some digest) body in
-      let put = body_as body files (is_put ask body files refl (λ h. h) placed) in
-      as_it_is ask (kept.Close name at (Some range) digest (kept_body body files)) k e
-      ((sound.0, sound.1, sound.2, sound.3, put.0), (body, put.1, refl))
+  close_as name at range digest body files k sound placed e = search (rules, arith, body_as, is_put, as_it_is)
 
   -- what is kept of a sound request is its entry
   pub kept_as : (ask : Ask) (files : List BodyFile) (k : KeptAsk) → IsSound ask → ArePlaced stands ask files
       → kept_of ask files ≡ Some k → IsKeptAs k ask
   kept_as asks.Base files k sound placed e = absurd cc
   kept_as (asks.Has name digest head) files k sound placed e = absurd cc
-  kept_as (asks.Opening name) files k sound placed e =
-      as_it_is (asks.Opening name) (kept.Opening name) k e (sound, refl)
+  kept_as (asks.Opening name) files k sound placed e = search (rules, arith, as_it_is)
   kept_as (asks.Single name digest body) files k sound placed e = single_as name digest body files k sound placed e
-  kept_as (asks.Mount name digest source) files k sound placed e =
-      as_it_is (asks.Mount name digest source) (kept.Mount name digest source) k e (sound, refl)
+  kept_as (asks.Mount name digest source) files k sound placed e = search (rules, arith, as_it_is)
   kept_as (asks.Chunk name at range body) files k sound placed e = chunk_as name at range body files k sound placed e
   kept_as (asks.Status name at) files k sound placed e = absurd cc
-  kept_as (asks.Close name at range digest body) files k sound placed e =
-      close_as name at range digest body files k sound placed e
+  kept_as (asks.Close name at range digest body) files k sound placed e = search (rules, arith, close_as)
   kept_as (asks.Refused refusal) files k sound placed e = absurd cc
 
   -- a body that has a file is placed there
   pub placed_in : (ask : Ask) (body : List ℕ) (file : BodyFile) → Some body ≡ body_in ask → IsFile file
       → stands file.number body → file.len ≡ length body → ArePlaced stands ask (file ∷ [])
-  placed_in ask body file is sound there len = (
-    sound,
-    subst (λ (b : Option (List ℕ)). IfSome b (λ bytes. stands file.number bytes × (length bytes ≡ file.len))) is
-        (there, sym len),
-  )
+  placed_in ask body file is sound there len = search (rules, arith)
 
   -- a draft that was finished is the entry of the exchange
   pub records_so : (ask : Ask) (secret : List ℕ) (moment : ℕ) (answer : Answer) (files : List BodyFile)
       (draft text : List ℕ) → IsSound ask → IfSome (told_of answer) IsTold → ArePlaced stands ask files
       → option_map (λ k. asked_text k secret moment) (kept_of ask files) ≡ Some draft
-      → Some text ≡ option_map (λ told. with_checksum (draft ++ told_text told)) (told_of answer) → length secret ≡ 12 → moment < 2 ^ 64
+      → Some text ≡ option_map (λ told. with_checksum (draft ++ told_text told)) (told_of answer) → length secret ≡ 12
+      → moment < 2 ^ 64
       → Records stands text (record { ask = ask; secret = secret; now = moment; answer = answer })
   records_so ask secret moment answer files draft text sound told placed drafted finished len small =
       let k = some_map (λ (k : KeptAsk). asked_text k secret moment) (kept_of ask files) draft drafted in
-      let t = some_map (λ (t : KeptAnswer). with_checksum (draft ++ told_text t)) (told_of answer) text (sym finished) in
+      let t = some_map (λ (t : KeptAnswer). with_checksum (draft ++ told_text t)) (told_of answer) text (sym finished)
+      in
       let is = kept_as ask files k.0 sound placed k.1 in
       record {
         entry = record { ask = k.0; secret = secret; now = moment; answer = t.0 };
@@ -161,19 +119,7 @@ pub drafted_so : {E G : Type 0} (stands : ℕ → List ℕ → Type 0) (request 
     → IfOk drawn
     (λ d. d ≡ option_map (λ (k : KeptAsk). asked_text k request.secret request.now) (kept_of request.ask files))
     → IfOk result (λ made. drawn ≡ Ok (Some made)) → IfOk result (IsDrafted stands request)
-drafted_so stands request files (Ok draft) drawn placed sound secret moment is made = record {
-  files = files;
-  placed = placed;
-  text =
-      sym
-      (subst (λ o. IfOk o
-      (λ d. d ≡ option_map (λ (k : KeptAsk). asked_text k request.secret request.now) (kept_of request.ask files)))
-      made is);
-  sound = sound;
-  secret = secret;
-  moment = moment;
-}
-drafted_so stands request files (Err e) drawn placed sound secret moment is made = tt
+drafted_so stands request files h drawn placed sound secret moment is made = search (rules, arith, option_map)
 
 -- ended, it is the entry of the exchange behind what a batch holds
 pub entered : (stands : ℕ → List ℕ → Type 0) (request : Asked) (xs : List Exchange) (old new : List (List ℕ))
@@ -181,14 +127,10 @@ pub entered : (stands : ℕ → List ℕ → Type 0) (request : Asked) (xs : Lis
     → Some text ≡ option_map (λ told. with_checksum (draft ++ told_text told)) (told_of answer) → new ≡ old ++ text ∷ []
     → Holds stands [] 0 xs 0 old → Holds stands [] 0 (xs ++ answered_so request answer ∷ []) 0 new
 entered stands request xs old new draft text answer d told finished grown holds =
-    one_more stands xs old text (answered_so request answer) new holds
-    (records_so stands request.ask request.secret request.now answer d.files draft text d.sound told d.placed d.text
-    finished d.secret d.moment)
-    grown
+    search (rules, arith, one_more, records_so)
 
 -- what was noted with room for it
 pub noted_so : {N A : Type 0} (note : N → A) (request : A) (noted : Option N) (room : Bool) → room ≡ is_some noted
     → IfSome noted (λ it. note it ≡ request) → option_map note noted ≡ (if room then Some request else None)
 noted_so note request None room is same = subst (λ b. None ≡ (if b then Some request else None)) (sym is) refl
-noted_so note request (Some it) room is same =
-    subst (λ b. Some (note it) ≡ (if b then Some request else None)) (sym is) (ap Some same)
+noted_so note request (Some it) room is same = cc

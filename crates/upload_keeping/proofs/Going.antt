@@ -1,6 +1,7 @@
 -- How the books of a keeping go on.
-use Rattle.std.proofs.Common.{◌≡◌, ◌≢◌, ◌∙◌, ⊎_elim, ℕ, Bool, true, false, true≢false, List, [], ◌∷◌, ◌++◌, Option, Some, None}
-use Rattle.std.proofs.Common.{refl, sym, ap, subst, arith, append-nil, append_assoc, IsTrue}
+use Rattle.std.proofs.Common.{◌≡◌, ◌≢◌, ◌∙◌, ⊎_elim, ℕ, Bool, true, false, true≢false, List, [], ◌∷◌, ◌++◌, Option}
+use Rattle.std.proofs.Common.{Some, None}
+use Rattle.std.proofs.Common.{refl, sym, ap, subst, arith, append-nil, append_assoc, IsTrue, rules}
 use Rattle.std.specs.List.{flat_map}
 use Rattle.std.specs.Option.{is_some}
 use Rattle.std.specs.Result.{result_err}
@@ -20,7 +21,6 @@ use Rattle.journal.specs.declared.batch.Batch.{Batch}
 use Rattle.upload_service.specs.Machine.{empty_state}
 use Rattle.upload_service.specs.Run.{Exchange}
 use Rattle.upload_journal.specs.declared.body.BodyFile.{BodyFile}
-use Rattle.upload_journal.specs.Entries.{IsEntry}
 use Rattle.upload_journal.specs.Replay.{Point}
 use Rattle.upload_store.specs.Found.{texts_of, found, numbers_of}
 use Rattle.upload_store.specs.Runs.{IsReplayOf, start_of}
@@ -42,14 +42,11 @@ use Rattle.upload_store.proofs.Naming.{replays_named}
 
 pub one_more_waits : (old new : List Recorded) (r : Recorded) (x : Exchange) → new ≡ old ++ r ∷ [] → recorded_by r ≡ x
     → recorded_in new ≡ recorded_in old ++ x ∷ []
-one_more_waits old new r x more same =
-    ap recorded_in more ∙ map-append recorded_by old (r ∷ []) ∙ ap (λ (y : Exchange). recorded_in old ++ y ∷ []) same
+one_more_waits old new r x more same = search (rules, arith, map-append)
 
 pub one_round_more : (old new : List (List Recorded)) (round : List Recorded) → new ≡ old ++ round ∷ []
     → flat_map recorded_in new ≡ flat_map recorded_in old ++ recorded_in round
-one_round_more old new round more =
-    ap (flat_map recorded_in) more ∙ flat_map-append recorded_in old (round ∷ [])
-    ∙ ap (λ (l : List Exchange). flat_map recorded_in old ++ l) (append-nil (recorded_in round))
+one_round_more old new round more = search (rules, arith, flat_map-append, append-nil)
 
 pub first_none : (front rest : List Exchange) → front ++ rest ≡ [] → front ≡ []
 first_none [] rest e = refl
@@ -83,17 +80,7 @@ module _ {D S F : Type 0} {g : Ghosts D} {s : shelves.Ghosts S F} {f : Ghosts F}
   -- a store that was just opened
   pub settled_at_first : (store : Store D S F g s f) (since : ℕ) → IsTrue (is_open store)
       → Settled store since [] since store
-  settled_at_first store since is_open = record {
-    stays_open = is_open;
-    whole = λ whole. whole;
-    holds = λ clean. record {
-      entries = [];
-      are_entries = All-nil IsEntry;
-      texts_are = sym (append-nil (texts_of (kept_of store)));
-      stand_for = refl;
-      moments = omega arith;
-    };
-  }
+  settled_at_first store since is_open = search (rules, arith, All-nil, append-nil)
 
   -- bodies were put on the shelf, and the journal is as it was
   pub settled_still : (opened old new : Store D S F g s f) (since : ℕ) (kept : List Exchange) (upto : ℕ)
@@ -112,12 +99,10 @@ module _ {D S F : Type 0} {g : Ghosts D} {s : shelves.Ghosts S F} {f : Ghosts F}
   -- the shelf is as it was
   pub goes_by_shelf : (old new : Store D S F g s f) → shelf_of new ≡ shelf_of old → (IsClean new → IsClean old)
       → Goes old new
-  goes_by_shelf old new same clean = record {
-    safe = λ c n bytes safe. subst (λ (x : S). IsSafe s.held s.may_leave x n bytes) (sym same) safe;
-    clean = clean;
-  }
+  goes_by_shelf old new same clean = search (rules, arith)
 
-  whole_still : (old new : Store D S F g s f) → journal_of new ≡ journal_of old → Goes old new → IsWhole old → IsWhole new
+  whole_still : (old new : Store D S F g s f) → journal_of new ≡ journal_of old → Goes old new → IsWhole old
+      → IsWhole new
   whole_still old new same goes whole clean =
       let Was : ℕ → Type 0 = HasSafe s.held s.may_leave (shelf_of old) in
       let Is : ℕ → Type 0 = HasSafe s.held s.may_leave (shelf_of new) in
@@ -128,17 +113,7 @@ module _ {D S F : Type 0} {g : Ghosts D} {s : shelves.Ghosts S F} {f : Ghosts F}
 
   -- a file of a number that had none takes nothing that is safe
   pub goes_aside : (old new : Store D S F g s f) (number : ℕ) → Aside old new number → Goes old new
-  goes_aside old new number a = record {
-    safe = λ clean n bytes safe.
-        let keeps = a.others.each n
-        (λ e. let none : Some bytes ≡ None =
-        sym safe.there ∙ ap (s.held (shelf_of old)) e ∙ a.free clean in absurd cc) in
-        record {
-          there = keeps.same ∙ safe.there;
-          stored = λ left may. safe.stored left (keeps.left left may);
-        };
-    clean = a.clean;
-  }
+  goes_aside old new number a = search (rules, arith)
 
   -- nor does it when it goes
   pub aside_then : (before old new : Store D S F g s f) (number : ℕ) → Aside before old number
@@ -158,19 +133,11 @@ module _ {D S F : Type 0} {g : Ghosts D} {s : shelves.Ghosts S F} {f : Ghosts F}
   -- what was kept is left alone, or with all that waited
   pub front_none : (b : Books D S F g s f) (file : List ℕ) (files : ℕ → Option (List ℕ))
       → Leaves (opened_in b) (since_in b) (kept_in b) b.upto file files → LeavesFront b file files
-  front_none b file files leaves = record {
-    front = [];
-    rest = waiting_in b;
-    split = refl;
-    leaves =
-        subst (λ (xs : List Exchange). Leaves (opened_in b) (since_in b) xs b.upto file files)
-        (sym (append-nil (kept_in b))) leaves;
-  }
+  front_none b file files leaves = search (rules, arith, append-nil)
 
   pub front_all : (b : Books D S F g s f) (file : List ℕ) (files : ℕ → Option (List ℕ))
       → Leaves (opened_in b) (since_in b) (kept_in b ++ waiting_in b) b.upto file files → LeavesFront b file files
-  front_all b file files leaves =
-      record { front = waiting_in b; rest = []; split = sym (append-nil (waiting_in b)); leaves = leaves }
+  front_all b file files leaves = search (rules, arith, append-nil)
 
   -- ---- what the books are at first
 
@@ -178,23 +145,8 @@ module _ {D S F : Type 0} {g : Ghosts D} {s : shelves.Ghosts S F} {f : Ghosts F}
       → since_in b ≡ b.upto → kept_in b ≡ [] → waiting_in b ≡ [] → batch_records b.batch ≡ []
       → (IsTrue b.is_whole → IsClean b.store → IsReplayOf (kept_of b.store) (s.held (shelf_of b.store))
       (start_of (empty_state (limits_of b.store) 0)) b.start.value) → AreKept b
-  kept_at_first b up fine opened since none waits batch ran = record {
-    begun =
-        subst (λ (o : Store D S F g s f). IsTrue b.is_whole → IsClean o → IsReplayOf (kept_of o) (s.held (shelf_of o))
-        (start_of (empty_state (limits_of o) 0)) b.start.value) (sym opened) ran;
-    goes = subst (λ (o : Store D S F g s f). Goes o b.store) (sym opened) (goes_nowhere b.store);
-    going = λ _. record {
-      settled =
-          subst (λ (y : Store D S F g s f × ℕ × List Exchange). Settled y.0 y.1 y.2 b.upto b.store)
-          (λ i. (sym opened i, sym since i, sym none i)) (settled_at_first b.store b.upto up);
-      awaits = λ clean.
-          subst (λ (y : List Exchange × List (List ℕ)).
-          Holds (IsSafe s.held s.may_leave (shelf_of b.store)) [] 0 y.0 0 y.1)
-          (λ i. (sym waits i, sym batch i)) (holds_none (IsSafe s.held s.may_leave (shelf_of b.store)));
-    };
-    idle = λ _. waits;
-    left = λ failed. absurd (failed fine);
-  }
+  kept_at_first b up fine opened since none waits batch ran =
+      grind (arith, goes_nowhere b.store, settled_at_first b.store b.upto up)
 
   -- ---- how they go on
 
@@ -267,7 +219,8 @@ module _ {D S F : Type 0} {g : Ghosts D} {s : shelves.Ghosts S F} {f : Ghosts F}
                   (λ i. (sym same i, sym (kept clean) i)) ((k.going fine).settled.whole was (goes.clean clean));
               holds = λ clean.
                   subst (λ (y : S × List Kept).
-                  Holds (IsSafe s.held s.may_leave y.0) (texts_of (kept_of (opened_in b))) (since_in b) (kept_in b) b.upto
+                  Holds (IsSafe s.held s.may_leave y.0) (texts_of (kept_of (opened_in b))) (since_in b) (kept_in b)
+                  b.upto
                   (texts_of y.1)) (λ i. (sym same i, sym (kept clean) i))
                   ((k.going fine).settled.holds (goes.clean clean));
             };
@@ -303,11 +256,7 @@ module _ {D S F : Type 0} {g : Ghosts D} {s : shelves.Ghosts S F} {f : Ghosts F}
         → journal_of store ≡ journal_of b.store → IfSome file (λ (it : BodyFile). Aside b.store store it.number)
         → IfSome file (λ (it : BodyFile). WithoutIt (record b { store = store }) before it.number)
     alone_made store before None is same aside = tt
-    alone_made store before (Some file) is same aside = record {
-      kept = subst (λ (it : Store D S F g s f). AreKept (record b { store = it })) (sym is) k;
-      journal = same ∙ ap journal_of (sym is);
-      aside = subst (λ (it : Store D S F g s f). Aside it store file.number) (sym is) aside;
-    }
+    alone_made store before (Some file) is same aside = search (rules, arith)
 
     -- one exchange more waits
     module _ (x : Exchange) (waiting : List Recorded) (more : recorded_in waiting ≡ waiting_in b ++ x ∷ []) where

@@ -1,5 +1,6 @@
 -- What records hold, added up.
-use Rattle.std.proofs.Common.{◌≡◌, ◌∙◌, ℕ, ◌≤◌, ◌<◌, ◌^◌, max, List, [], ◌∷◌, ◌++◌, map, refl, sym, ap, subst}
+use Rattle.std.proofs.lemmas.Grind.{common_steps}
+use Rattle.std.proofs.Common.{◌≡◌, ℕ, ◌≤◌, ◌<◌, ◌^◌, max, List, [], ◌∷◌, ◌++◌, refl, sym, ap, subst, rules}
 use Rattle.std.proofs.Common.{arith, append_assoc, append-nil, inl, inr}
 use Rattle.std.proofs.lemmas.List.{map-append}
 use Rattle.std.proofs.lemmas.List.Elements.{All-cons, All-nil, All-append}
@@ -9,7 +10,6 @@ use Rattle.upload_journal.specs.declared.body.BodyFile.{BodyFile}
 use Rattle.upload_journal.specs.declared.body.KeptBody.{KeptBody}
 use Rattle.upload_journal.specs.declared.body.KeptBody.TheVariants.{Here, InFiles}
 use Rattle.upload_journal.specs.declared.entries.KeptAsk.{KeptAsk}
-use Rattle.upload_journal.specs.declared.entries.KeptAsk.TheVariants.{Opening, Single, Mount, Chunk, Close}
 use Rattle.upload_journal.specs.declared.entries.KeptExchange.{KeptExchange}
 use Rattle.upload_journal.specs.declared.entries.Entry.{Entry}
 use Rattle.upload_journal.specs.declared.entries.Entry.TheVariants.{Exchange as Kept, NumbersUpTo, MomentsUpTo}
@@ -30,14 +30,9 @@ more_back (NumbersUpTo n ∷ es) fs = more_back es fs
 more_back (MomentsUpTo m ∷ es) fs = omega (arith, more_back es fs)
 
 pub lower : (stands : ℕ → List ℕ → Type 0) (first : List (List ℕ)) (since : ℕ) (xs : List Exchange) (upto less : ℕ)
-    (texts : List (List ℕ)) → less ≤ upto → Holds stands first since xs upto texts → Holds stands first since xs less texts
-lower stands first since xs upto less texts le is = record {
-  entries = is.entries;
-  are_entries = is.are_entries;
-  texts_are = is.texts_are;
-  stand_for = is.stand_for;
-  moments = omega (arith, le, is.moments);
-}
+    (texts : List (List ℕ)) → less ≤ upto → Holds stands first since xs upto texts
+    → Holds stands first since xs less texts
+lower stands first since xs upto less texts le is = search (rules, arith)
 
 module _ (stands : ℕ → List ℕ → Type 0) where
   stand_then : (es : List Entry) (xs : List Exchange) (fs : List Entry) (ys : List Exchange) → StandFor stands es xs
@@ -51,17 +46,8 @@ module _ (stands : ℕ → List ℕ → Type 0) where
   pub holds_then : (first : List (List ℕ)) (since : ℕ) (xs : List Exchange) (upto : ℕ) (texts : List (List ℕ))
       (ys : List Exchange) (m : ℕ) (more : List (List ℕ)) → Holds stands first since xs upto texts
       → Holds stands [] 0 ys m more → Holds stands first since (xs ++ ys) (max upto m) (texts ++ more)
-  holds_then first since xs upto texts ys m more old new = record {
-    entries = old.entries ++ new.entries;
-    are_entries = All-append IsEntry old.entries new.entries old.are_entries new.are_entries;
-    texts_are =
-        (λ i. old.texts_are i ++ new.texts_are i)
-        ∙ append_assoc first (map entry_text old.entries) (map entry_text new.entries)
-        ∙ ap (λ (l : List (List ℕ)). first ++ l) (sym (map-append entry_text old.entries new.entries));
-    stand_for = stand_then old.entries xs new.entries ys old.stand_for new.stand_for;
-    moments =
-        omega (arith, old.moments, new.moments, more_front old.entries new.entries, more_back old.entries new.entries);
-  }
+  holds_then first since xs upto texts ys m more old new =
+      grind (arith, common_steps, All-append, append_assoc, map-append, stand_then, more_front, more_back)
 
   holds_entry : (text : List ℕ) (x : Exchange) → Records stands text x → Holds stands [] 0 (x ∷ []) 0 (text ∷ [])
   holds_entry text x is = record {
@@ -82,7 +68,13 @@ module _ (stands : ℕ → List ℕ → Type 0) where
   }
 
   pub holds_none : Holds stands [] 0 [] 0 []
-  holds_none = record { entries = []; are_entries = All-nil IsEntry; texts_are = refl; stand_for = refl; moments = omega arith }
+  holds_none = record {
+    entries = [];
+    are_entries = All-nil IsEntry;
+    texts_are = refl;
+    stand_for = refl;
+    moments = omega arith;
+  }
 
   -- one entry more waits
   pub one_more : (xs : List Exchange) (texts : List (List ℕ)) (text : List ℕ) (x : Exchange) (all : List (List ℕ))
@@ -100,11 +92,7 @@ module _ (stands : ℕ → List ℕ → Type 0) where
 
   pub promise_more : (clean : Type 0) (upto next : ℕ) (xs : List Exchange) (old new : List (List ℕ))
       → Promises upto next old new → (clean → Holds stands [] 0 xs 0 old) → Promised clean upto next xs new
-  promise_more clean upto next xs old new (inl same) is = record {
-    more = 0;
-    reaches = omega (arith, same.0);
-    holds = λ c. subst (λ (l : List (List ℕ)). Holds stands [] 0 xs 0 l) (sym same.1) (is c);
-  }
+  promise_more clean upto next xs old new (inl same) is = search (rules, arith)
   promise_more clean upto next xs old new (inr one) is =
       let text = entry_text (MomentsUpTo next) in
       record {
@@ -122,27 +110,17 @@ module _ (stands : ℕ → List ℕ → Type 0) where
 module _ (old new : ℕ → List ℕ → Type 0) (keeps : (n : ℕ) (bytes : List ℕ) → old n bytes → new n bytes) where
   joins_still : (files : List BodyFile) (bytes : List ℕ) → Joins old files bytes → Joins new files bytes
   joins_still [] bytes is = is
-  joins_still (file ∷ files) bytes is =
-      (is.0, is.1, is.2, keeps file.number is.0 is.3, is.4, joins_still files is.1 is.5)
+  joins_still (file ∷ files) bytes is = search (rules, arith, joins_still files is.1 is.5)
 
   body_still : (body : KeptBody) (bytes : List ℕ) → IsBodyOf old body bytes → IsBodyOf new body bytes
   body_still (Here body) bytes is = is
   body_still (InFiles files) bytes joins = joins_still files bytes joins
 
   ask_still : (kept : KeptAsk) (ask : Ask) → IsAskOf old kept ask → IsAskOf new kept ask
-  ask_still (Opening name) ask is = is
-  ask_still (Single name digest body) ask is = (is.0, body_still body is.0 is.1, is.2)
-  ask_still (Mount name digest source) ask is = is
-  ask_still (Chunk name at range body) ask is = (is.0, body_still body is.0 is.1, is.2)
-  ask_still (Close name at range digest body) ask is = (is.0, body_still body is.0 is.1, is.2)
+  ask_still kept ask is = search (rules, arith, body_still)
 
   exchange_still : (entry : KeptExchange) (x : Exchange) → IsExchangeOf old entry x → IsExchangeOf new entry x
-  exchange_still entry x is = record {
-    ask = ask_still entry.ask x.ask is.ask;
-    secret = is.secret;
-    now = is.now;
-    answer = is.answer;
-  }
+  exchange_still entry x is = search (rules, arith, ask_still)
 
   stand_still : (es : List Entry) (xs : List Exchange) → StandFor old es xs → StandFor new es xs
   stand_still [] xs is = is
@@ -153,10 +131,4 @@ module _ (old new : ℕ → List ℕ → Type 0) (keeps : (n : ℕ) (bytes : Lis
 
   pub holds_still : (first : List (List ℕ)) (since : ℕ) (xs : List Exchange) (upto : ℕ) (texts : List (List ℕ))
       → Holds old first since xs upto texts → Holds new first since xs upto texts
-  holds_still first since xs upto texts is = record {
-    entries = is.entries;
-    are_entries = is.are_entries;
-    texts_are = is.texts_are;
-    stand_for = stand_still is.entries xs is.stand_for;
-    moments = is.moments;
-  }
+  holds_still first since xs upto texts is = search (rules, arith, stand_still)

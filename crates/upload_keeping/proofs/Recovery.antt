@@ -1,14 +1,14 @@
 -- What is told is on the disk.
-use Rattle.std.proofs.Common.{◌≤◌, ◌≡◌, ◌≢◌, ◌∙◌, ◌⊎◌, inl, inr, ⊎_elim, ℕ, List, [], ◌∷◌, ◌++◌, map, Option, Some, None, refl, sym, ap, subst}
+use Rattle.std.proofs.Common.{◌≤◌, ◌≡◌, ◌≢◌, ◌∙◌, ◌⊎◌, inl, inr, ⊎_elim, ℕ, List, [], ◌∷◌, ◌++◌, map, Option, Some}
+use Rattle.std.proofs.Common.{None, refl, sym, ap, subst}
 use Rattle.std.specs.Prelude.{is_some, filter, IsTrue}
-use Rattle.std.proofs.Common.{arith, append_assoc, append-nil}
+use Rattle.std.proofs.Common.{arith, append_assoc, append-nil, rules}
 use Rattle.std.specs.List.{All}
 use Rattle.std.proofs.lemmas.List.{map-append}
 use Rattle.std.proofs.lemmas.List.Elements.{All-append}
 use Rattle.sqlite_disk.specs.declared.Disk.{Ghosts}
 use Rattle.bodies.specs.declared.shelf.Shelf as shelves
 use Rattle.upload_service.specs.declared.answer.Answer.{Answer}
-use Rattle.upload_service.specs.declared.answer.Answer.TheVariants as answers
 use Rattle.upload_service.specs.Machine.{State, empty_state}
 use Rattle.upload_service.specs.Run.{Exchange, Run, NeverBefore}
 use Rattle.upload_intake.specs.Pools.Restarts.{asked_of, AreRemembered, HasAnswer}
@@ -75,8 +75,7 @@ in_two (x ∷ xs) (k ∷ ks) rest e =
 run_in_two : (old : State) (xs ys : List Exchange) (new : State) → Run old (xs ++ ys) new
     → (mid : State) × Run old xs mid × Run mid ys new
 run_in_two old [] ys new r = (old, refl, r)
-run_in_two old (x ∷ xs) ys new r =
-    let rest = run_in_two r.0 xs ys new r.2 in (rest.0, (r.0, r.1, rest.1), rest.2)
+run_in_two old (x ∷ xs) ys new r = search (rules, arith, run_in_two r.0 xs ys new r.2)
 
 remembered_front : (xs ys : List Exchange) → AreRemembered (xs ++ ys) → AreRemembered xs
 remembered_front [] ys m = tt
@@ -111,15 +110,7 @@ has_still start xs mid heard answer ys new h on = record {
 
 -- an answer tells of a change if something is kept of it
 tells : (answer : Answer) → is_some (told_of answer) ≡ changes answer
-tells answers.Base = refl
-tells (answers.Blob digest size bytes) = refl
-tells (answers.Begun name at) = refl
-tells (answers.Stored name digest) = refl
-tells (answers.Taken name at next) = refl
-tells (answers.Standing name at next) = refl
-tells (answers.Misplaced name at next) = refl
-tells (answers.Refused refusal) = refl
-tells answers.NoMemory = refl
+tells answer = search (rules, arith)
 
 same_changes : (xs : List Exchange) → changes_of xs ≡ changed xs
 same_changes xs = λ i. filter (λ (x : Exchange). tells x.answer i) xs
@@ -156,93 +147,92 @@ module _ {D S F : Type 0} {g : Ghosts D} {s : shelves.Ghosts S F} {f : Ghosts F}
       (fault_or_none b.fault)
 
   module _ (b : Books D S F g s f) (k : AreKept b) (none_lost : IsTrue (is_whole_in b)) (clean : IsClean b.store)
-      (whole : IsWhole (opened_in b)) (file : List ℕ) (files : ℕ → Option (List ℕ)) (left : LeavesFront b file files) where
-    abbrev opened : Store D S F g s f
-    opened = opened_in b
+      (whole : IsWhole (opened_in b)) (file : List ℕ) (files : ℕ → Option (List ℕ)) (left : LeavesFront b file files)
+    where
+      abbrev opened : Store D S F g s f
+      opened = opened_in b
 
-    abbrev begin : Point
-    begin = start_of (empty_state (limits_of opened) 0)
+      abbrev begin : Point
+      begin = start_of (empty_state (limits_of opened) 0)
 
-    abbrev Has : ℕ → Type 0
-    Has = HasSafe s.held s.may_leave (shelf_of opened)
+      abbrev Has : ℕ → Type 0
+      Has = HasSafe s.held s.may_leave (shelf_of opened)
 
-    still : (n : ℕ) → Has n → (bytes : List ℕ) → s.held (shelf_of opened) n ≡ Some bytes → files n ≡ Some bytes
-    still n has bytes there =
-        let same : has.0 ≡ bytes = some_is has.0 bytes (s.held (shelf_of opened) n) has.1.there there in
-        left.leaves.bodies n has.0 has.1 ∙ ap (λ (l : List ℕ). Some l) same
+      still : (n : ℕ) → Has n → (bytes : List ℕ) → s.held (shelf_of opened) n ≡ Some bytes → files n ≡ Some bytes
+      still n has bytes there = search (rules, arith, some_is)
 
-    -- what the store had as it was opened comes to what was recovered then
-    moved : Replays (stands_in files) begin (k.begun none_lost (k.goes.clean clean)).entries b.start.value
-    moved =
-        let first = k.begun none_lost (k.goes.clean clean) in
-        replays_moved Has (s.held (shelf_of opened)) files still begin first.entries b.start.value first.are_entries
-        (subst (λ (l : List (List ℕ)). All (λ text. All Has (numbers_of text)) l) first.texts
-        (whole (k.goes.clean clean))) first.replays
+      -- what the store had as it was opened comes to what was recovered then
+      moved : Replays (stands_in files) begin (k.begun none_lost (k.goes.clean clean)).entries b.start.value
+      moved =
+          let first = k.begun none_lost (k.goes.clean clean) in
+          replays_moved Has (s.held (shelf_of opened)) files still begin first.entries b.start.value first.are_entries
+          (subst (λ (l : List (List ℕ)). All (λ text. All Has (numbers_of text)) l) first.texts
+          (whole (k.goes.clean clean))) first.replays
 
-    -- and what was kept since goes on from there, if it is a run at no earlier moments
-    runs_on : (rest : List Exchange) (service : State) → Run (start_in b) ((kept_in b ++ left.front) ++ rest) service
-        → NeverBefore (since_in b) ((kept_in b ++ left.front) ++ rest)
-        → (point : Point) × Recovers (limits_of opened) file files point
-    runs_on rest service run before =
-        let first = k.begun none_lost (k.goes.clean clean) in
-        let behind = left.leaves.holds in
-        let kept = kept_in b ++ left.front in
-        let front = run_in_two (start_in b) kept rest service run in
-        let moments =
-        sooner b.start.value.last (since_in b) kept (omega arith) (before_front (since_in b) kept rest before) in
-        let there =
-        replays_there files b.start.value behind.entries kept front.0 behind.stand_for front.1 moments in (
-          there.0,
-          is_replay (stored file) files begin there.0 (first.entries ++ behind.entries)
-              (All-append IsEntry first.entries behind.entries first.are_entries behind.are_entries)
-              (behind.texts_are ∙ (λ i. first.texts i ++ map entry_text behind.entries)
-              ∙ sym (map-append entry_text first.entries behind.entries))
-              (empty_is_lawful (limits_of opened) 0)
-              (replays_on files begin first.entries behind.entries b.start.value there.0 moved there.1),
-        )
-
-    module _ (point : Point) (recovers : Recovers (limits_of (opened_in b)) file files point) where
-      -- it went over what the store had as it was opened
-      goes_on : Replays (stands_in files) b.start.value left.leaves.holds.entries point
-      goes_on =
+      -- and what was kept since goes on from there, if it is a run at no earlier moments
+      runs_on : (rest : List Exchange) (service : State) → Run (start_in b) ((kept_in b ++ left.front) ++ rest) service
+          → NeverBefore (since_in b) ((kept_in b ++ left.front) ++ rest)
+          → (point : Point) × Recovers (limits_of opened) file files point
+      runs_on rest service run before =
           let first = k.begun none_lost (k.goes.clean clean) in
           let behind = left.leaves.holds in
-          let all : recovers.entries ≡ first.entries ++ behind.entries =
-          same_entries recovers.entries (first.entries ++ behind.entries) recovers.are_entries
-          (All-append IsEntry first.entries behind.entries first.are_entries behind.are_entries)
-          (sym recovers.texts ∙ behind.texts_are ∙ (λ i. first.texts i ++ map entry_text behind.entries)
-          ∙ sym (map-append entry_text first.entries behind.entries)) in
-          let two =
-          replays_split files begin first.entries behind.entries point
-          (subst (λ (l : List Entry). Replays (stands_in files) begin l point) all recovers.replays) in
-          let same : two.0 ≡ b.start.value =
-          replays_same files begin first.entries two.0 b.start.value two.1 moved in
-          subst (λ (p : Point). Replays (stands_in files) p behind.entries point) same two.2
+          let kept = kept_in b ++ left.front in
+          let front = run_in_two (start_in b) kept rest service run in
+          let moments =
+          sooner b.start.value.last (since_in b) kept (omega arith) (before_front (since_in b) kept rest before) in
+          let there =
+          replays_there files b.start.value behind.entries kept front.0 behind.stand_for front.1 moments in (
+            there.0,
+            is_replay (stored file) files begin there.0 (first.entries ++ behind.entries)
+                (All-append IsEntry first.entries behind.entries first.are_entries behind.are_entries)
+                (behind.texts_are ∙ (λ i. first.texts i ++ map entry_text behind.entries)
+                ∙ sym (map-append entry_text first.entries behind.entries))
+                (empty_is_lawful (limits_of opened) 0)
+                (replays_on files begin first.entries behind.entries b.start.value there.0 moved there.1),
+          )
 
-      has_told : (kept more : List Exchange) (heard : ℕ) (answer : Answer) → MayBeHeard (start_in b) kept heard answer
-          → kept_in b ≡ kept ++ more → HasTold (start_in b) kept (more ++ left.front) heard b.upto answer point
-      has_told kept more heard answer may all =
-          let again =
-          runs_again files b.start.value left.leaves.holds.entries (kept_in b ++ left.front) point goes_on
-          left.leaves.holds.stand_for in
-          let asks : map asked_of again.exchanges ≡ map asked_of (kept ++ (more ++ left.front)) =
-          again.same ∙ ap (λ (l : List Exchange). map asked_of (l ++ left.front)) all
-          ∙ ap (map asked_of) (append_assoc kept more left.front) in
-          let parts = in_two again.exchanges kept (more ++ left.front) asks in
-          let runs =
-          run_in_two (start_in b) parts.front parts.back point.state
-          (subst (λ (l : List Exchange). Run (start_in b) l point.state) parts.split again.run) in
-          let has =
-          told_is_kept (start_in b) kept heard answer may parts.front runs.0 runs.1 parts.same
-          (remembered_front parts.front parts.back (subst AreRemembered parts.split again.remembered)) in
-          record {
-            later = parts.back;
-            same = parts.others;
-            has =
-                subst (λ (l : List Exchange). HasAnswer (start_in b) (l ++ parts.back) point.state heard answer) has.0
-                (has_still (start_in b) parts.front runs.0 heard answer parts.back point.state has.1 runs.2);
-            moment = omega (arith, left.leaves.holds.moments, again.later, again.promised);
-          }
+      module _ (point : Point) (recovers : Recovers (limits_of (opened_in b)) file files point) where
+        -- it went over what the store had as it was opened
+        goes_on : Replays (stands_in files) b.start.value left.leaves.holds.entries point
+        goes_on =
+            let first = k.begun none_lost (k.goes.clean clean) in
+            let behind = left.leaves.holds in
+            let all : recovers.entries ≡ first.entries ++ behind.entries =
+            same_entries recovers.entries (first.entries ++ behind.entries) recovers.are_entries
+            (All-append IsEntry first.entries behind.entries first.are_entries behind.are_entries)
+            (sym recovers.texts ∙ behind.texts_are ∙ (λ i. first.texts i ++ map entry_text behind.entries)
+            ∙ sym (map-append entry_text first.entries behind.entries)) in
+            let two =
+            replays_split files begin first.entries behind.entries point
+            (subst (λ (l : List Entry). Replays (stands_in files) begin l point) all recovers.replays) in
+            let same : two.0 ≡ b.start.value =
+            replays_same files begin first.entries two.0 b.start.value two.1 moved in
+            subst (λ (p : Point). Replays (stands_in files) p behind.entries point) same two.2
+
+        has_told : (kept more : List Exchange) (heard : ℕ) (answer : Answer) → MayBeHeard (start_in b) kept heard answer
+            → kept_in b ≡ kept ++ more → HasTold (start_in b) kept (more ++ left.front) heard b.upto answer point
+        has_told kept more heard answer may all =
+            let again =
+            runs_again files b.start.value left.leaves.holds.entries (kept_in b ++ left.front) point goes_on
+            left.leaves.holds.stand_for in
+            let asks : map asked_of again.exchanges ≡ map asked_of (kept ++ (more ++ left.front)) =
+            again.same ∙ ap (λ (l : List Exchange). map asked_of (l ++ left.front)) all
+            ∙ ap (map asked_of) (append_assoc kept more left.front) in
+            let parts = in_two again.exchanges kept (more ++ left.front) asks in
+            let runs =
+            run_in_two (start_in b) parts.front parts.back point.state
+            (subst (λ (l : List Exchange). Run (start_in b) l point.state) parts.split again.run) in
+            let has =
+            told_is_kept (start_in b) kept heard answer may parts.front runs.0 runs.1 parts.same
+            (remembered_front parts.front parts.back (subst AreRemembered parts.split again.remembered)) in
+            record {
+              later = parts.back;
+              same = parts.others;
+              has =
+                  subst (λ (l : List Exchange). HasAnswer (start_in b) (l ++ parts.back) point.state heard answer) has.0
+                  (has_still (start_in b) parts.front runs.0 heard answer parts.back point.state has.1 runs.2);
+              moment = omega (arith, left.leaves.holds.moments, again.later, again.promised);
+            }
 
   pub keeps_told : (b : Books D S F g s f) → AreKept b → LeavesJustThat b.store → KeepsWhatIsTold b
   keeps_told b k just none_lost kept more heard answer may all clean whole file files leaves point recovers =
@@ -254,7 +244,8 @@ module _ {D S F : Type 0} {g : Ghosts D} {s : shelves.Ghosts S F} {f : Ghosts F}
       )
 
   pub holds_on : (b : Books D S F g s f) → AreKept b → LeavesJustThat b.store → HoldsOverRestarts b
-  holds_on b k just none_lost heard answer may none upto clean whole file files leaves point recovers more service before
+  holds_on b k just none_lost heard answer may none upto clean whole file files leaves point recovers more service
+      before
       run =
       let left = left_front b k just clean whole file files leaves in
       let front : left.front ≡ [] = first_none left.front left.rest (sym left.split ∙ none) in
@@ -272,7 +263,8 @@ module _ {D S F : Type 0} {g : Ghosts D} {s : shelves.Ghosts S F} {f : Ghosts F}
       (k.begun none_lost (k.goes.clean clean)).lawful may.served.moments may.served.run
       (subst (λ (l : List Exchange). Run (start_in b) l point.state)
       (sym may.changes_are_kept ∙ sym (same_changes xs)) again)
-      (never_after 0 xs (moment_of point) may.served.moments (omega (arith, may.promised, upto, told.moment))) before run
+      (never_after 0 xs (moment_of point) may.served.moments (omega (arith, may.promised, upto, told.moment))) before
+      run
 
   pub can_be_run_again : (b : Books D S F g s f) → AreKept b → LeavesJustThat b.store → CanBeRunAgain b
   can_be_run_again b k just none_lost service run before clean whole file files leaves =

@@ -1,30 +1,27 @@
 -- The same entries, run again over the same bodies, come to the same.
-use Rattle.std.proofs.Common.{◌≡◌, ◌≢◌, ◌∙◌, ◌≤◌, ℕ, max, List, [], ◌∷◌, ◌++◌, map, Option, Some, Result, Ok, refl, sym, ap, subst}
-use Rattle.std.proofs.Common.{arith}
+use Rattle.std.proofs.Common.{◌≡◌, ◌≢◌, ◌∙◌, ◌≤◌, ℕ, max, List, [], ◌∷◌, ◌++◌, map, Option, Some, Result, Ok, refl}
+use Rattle.std.proofs.Common.{sym, ap, subst}
+use Rattle.std.proofs.Common.{arith, rules}
 use Rattle.std.specs.List.{All}
 use Rattle.std.proofs.lemmas.List.Elements.{All-head, All-tail}
 use Rattle.upload_service.specs.declared.ask.Ask.{Ask}
-use Rattle.upload_service.specs.declared.ask.Ask.TheVariants as asks
 use Rattle.upload_service.specs.declared.answer.Answer.{Answer}
 use Rattle.upload_service.specs.declared.answer.Answer.TheVariants.{NoMemory}
-use Rattle.upload_service.specs.Machine.{State, Turn}
+use Rattle.upload_service.specs.Machine.{State}
 use Rattle.upload_service.specs.Run.{Exchange, Run, NeverBefore}
 use Rattle.upload_intake.specs.Pools.Restarts.{asked_of, AreRemembered}
-use Rattle.upload_intake.specs.Safety.{Asked, asked}
 use Rattle.upload_intake.proofs.Orders.{turns_same}
 use Rattle.upload_journal.specs.declared.body.BodyFile.{BodyFile}
 use Rattle.upload_journal.specs.declared.body.KeptBody.{KeptBody}
 use Rattle.upload_journal.specs.declared.body.KeptBody.TheVariants.{Here, InFiles}
 use Rattle.upload_journal.specs.declared.entries.KeptAsk.{KeptAsk}
-use Rattle.upload_journal.specs.declared.entries.KeptAsk.TheVariants.{Opening, Single, Mount, Chunk, Close}
 use Rattle.upload_journal.specs.declared.entries.KeptExchange.{KeptExchange}
 use Rattle.upload_journal.specs.declared.entries.Entry.{Entry}
 use Rattle.upload_journal.specs.declared.entries.Entry.TheVariants.{Exchange as Kept, NumbersUpTo, MomentsUpTo}
 use Rattle.upload_journal.specs.declared.entries.KeptAnswer.{KeptAnswer}
 use Rattle.upload_journal.specs.declared.fault.EntryFault.{EntryFault}
-use Rattle.upload_journal.specs.Entries.{IsEntry, entry_text, entry_of}
+use Rattle.upload_journal.specs.Entries.{IsEntry, entry_text}
 use Rattle.upload_journal.specs.Replay.{Joins, IsBodyOf, IsAskOf, IsExchangeOf, Point, Applies, Replays, StandFor}
-use Rattle.upload_journal.specs.Replay.{extent_of}
 use Rattle.upload_journal.specs.Short.{told_of}
 use Rattle.upload_journal.proofs.Texts.{entry_read}
 use Rattle.upload_store.specs.Found.{entry_numbers, ask_numbers, body_numbers, numbers_of, read_numbers}
@@ -49,19 +46,26 @@ tails a b ps qs e = cc
 none_is : (a : List ℕ) (ps : List (List ℕ)) → [] ≡ a ∷ ps → ⊥
 none_is a ps e = cc
 
-pub same_entries : (es fs : List Entry) → All IsEntry es → All IsEntry fs → map entry_text es ≡ map entry_text fs → es ≡ fs
+pub same_entries : (es fs : List Entry) → All IsEntry es → All IsEntry fs → map entry_text es ≡ map entry_text fs → es
+    ≡ fs
 same_entries [] [] p q e = refl
 same_entries [] (f ∷ fs) p q e = absurd (none_is (entry_text f) (map entry_text fs) e)
 same_entries (e ∷ es) [] p q same = absurd (none_is (entry_text e) (map entry_text es) (sym same))
 same_entries (e ∷ es) (f ∷ fs) p q same =
-    let text : entry_text e ≡ entry_text f = heads (entry_text e) (entry_text f) (map entry_text es) (map entry_text fs) same in
-    let first : e ≡ f =
-    ok_is e f
-    (sym (entry_read e (All-head IsEntry e es p)) ∙ ap entry_of text ∙ entry_read f (All-head IsEntry f fs q)) in
-    let rest =
-    same_entries es fs (All-tail IsEntry e es p) (All-tail IsEntry f fs q)
-    (tails (entry_text e) (entry_text f) (map entry_text es) (map entry_text fs) same) in
-    λ i. first i ∷ rest i
+    grind (
+      arith,
+      heads (entry_text e) (entry_text f) (map entry_text es) (map entry_text fs) same,
+      ok_is e f,
+      entry_read e (All-head IsEntry e es p),
+      All-head IsEntry e es p,
+      entry_read f (All-head IsEntry f fs q),
+      All-head IsEntry f fs q,
+      All-tail IsEntry e es p,
+      All-tail IsEntry f fs q,
+      tails (entry_text e) (entry_text f) (map entry_text es) (map entry_text fs) same,
+      same_entries es fs (All-tail IsEntry e es p) (All-tail IsEntry f fs q)
+          (tails (entry_text e) (entry_text f) (map entry_text es) (map entry_text fs) same),
+    )
 
 -- ---- an entry stands for one request
 
@@ -74,29 +78,18 @@ module _ (files : ℕ → Option (List ℕ)) where
 
   joins_same : (fs : List BodyFile) (a b : List ℕ) → Joins Stands fs a → Joins Stands fs b → a ≡ b
   joins_same [] a b p q = p ∙ sym q
-  joins_same (file ∷ fs) a b p q =
-      let front : p.0 ≡ q.0 = some_is p.0 q.0 (files file.number) p.3 q.3 in
-      let rest : p.1 ≡ q.1 = joins_same fs p.1 q.1 p.5 q.5 in
-      p.2 ∙ (λ i. front i ++ rest i) ∙ sym q.2
+  joins_same (file ∷ fs) a b p q = cc (some_is p.0 q.0 (files file.number) p.3 q.3, joins_same fs p.1 q.1 p.5 q.5)
 
   body_same : (body : KeptBody) (a b : List ℕ) → IsBodyOf Stands body a → IsBodyOf Stands body b → a ≡ b
   body_same (Here body) a b p q = p ∙ sym q
   body_same (InFiles fs) a b p q = joins_same fs a b p q
 
   ask_same : (kept : KeptAsk) (a b : Ask) → IsAskOf Stands kept a → IsAskOf Stands kept b → a ≡ b
-  ask_same (Opening name) a b p q = p ∙ sym q
-  ask_same (Single name digest body) a b p q =
-      p.2 ∙ (λ i. asks.Single name (Some digest) (body_same body p.0 q.0 p.1 q.1 i)) ∙ sym q.2
-  ask_same (Mount name digest source) a b p q = p ∙ sym q
-  ask_same (Chunk name at range body) a b p q =
-      p.2 ∙ (λ i. asks.Chunk name at (extent_of range) (body_same body p.0 q.0 p.1 q.1 i)) ∙ sym q.2
-  ask_same (Close name at range digest body) a b p q =
-      p.2 ∙ (λ i. asks.Close name at (extent_of range) (Some digest) (body_same body p.0 q.0 p.1 q.1 i)) ∙ sym q.2
+  ask_same kept a b p q = search (rules, arith, body_same)
 
   pub asked_same : (entry : KeptExchange) (x y : Exchange) → IsExchangeOf Stands entry x → IsExchangeOf Stands entry y
       → asked_of x ≡ asked_of y
-  asked_same entry x y p q = λ i.
-      asked (ask_same entry.ask x.ask y.ask p.ask q.ask i) ((p.secret ∙ sym q.secret) i) ((p.now ∙ sym q.now) i)
+  asked_same entry x y p q = cc (ask_same entry.ask x.ask y.ask p.ask q.ask)
 
 told_is : (answer : Answer) (told : KeptAnswer) → told_of answer ≡ Some told → answer ≢ NoMemory
 told_is answer told e out = (let none : told_of NoMemory ≡ Some told = ap told_of (sym out) ∙ e in cc)
@@ -106,30 +99,17 @@ told_is answer told e out = (let none : told_of NoMemory ≡ Some told = ap told
 module _ (files : ℕ → Option (List ℕ)) where
   applied_same : (old : Point) (e : Entry) (p q : Point) → Applies (stands_in files) old e p
       → Applies (stands_in files) old e q → p ≡ q
-  applied_same old (Kept entry) p q a b =
-      let same = asked_same files entry a.0 b.0 a.1 b.1 in
-      let turn =
-      turns_same old.state b.0.ask b.0.secret b.0.now a.0.answer b.0.answer p.state q.state
-      (subst (λ (y : Asked). Turn old.state y.ask y.secret y.now a.0.answer p.state) same a.2.turn) b.2.turn
-      (told_is a.0.answer entry.answer a.1.answer) (told_is b.0.answer entry.answer b.1.answer) in
-      let last : p.last ≡ q.last = a.2.last ∙ ap (λ (y : Asked). y.now) same ∙ sym b.2.last in
-      let upto : p.upto ≡ q.upto = a.2.upto ∙ sym b.2.upto in
-      λ i. record { state = turn.1 i; last = last i; upto = upto i }
-  applied_same old (NumbersUpTo n) p q a b = a ∙ sym b
-  applied_same old (MomentsUpTo m) p q a b = a ∙ sym b
+  applied_same old e p q a b = search (rules, arith, asked_same, turns_same, told_is)
 
   pub replays_same : (old : Point) (es : List Entry) (p q : Point) → Replays (stands_in files) old es p
       → Replays (stands_in files) old es q → p ≡ q
   replays_same old [] p q a b = a ∙ sym b
-  replays_same old (e ∷ es) p q a b =
-      let mid : a.0 ≡ b.0 = applied_same old e a.0 b.0 a.1 b.1 in
-      replays_same b.0 es p q (subst (λ (m : Point). Replays (stands_in files) m es p) mid a.2) b.2
+  replays_same old (e ∷ es) p q a b = search (rules, arith, applied_same, replays_same b.0 es p q)
 
   pub replays_split : (old : Point) (es fs : List Entry) (new : Point) → Replays (stands_in files) old (es ++ fs) new
       → (mid : Point) × Replays (stands_in files) old es mid × Replays (stands_in files) mid fs new
   replays_split old [] fs new r = (old, refl, r)
-  replays_split old (e ∷ es) fs new r =
-      let rest = replays_split r.0 es fs new r.2 in (rest.0, (r.0, r.1, rest.1), rest.2)
+  replays_split old (e ∷ es) fs new r = search (rules, arith, replays_split r.0 es fs new r.2)
 
   pub replays_on : (old : Point) (es fs : List Entry) (mid new : Point) → Replays (stands_in files) old es mid
       → Replays (stands_in files) mid fs new → Replays (stands_in files) old (es ++ fs) new
@@ -164,17 +144,7 @@ module _ (files : ℕ → Option (List ℕ)) where
 
   pub runs_again : (old : Point) (es : List Entry) (ys : List Exchange) (new : Point)
       → Replays (stands_in files) old es new → StandFor (stands_in files) es ys → Again old es ys new
-  runs_again old [] ys new r stand =
-      let last : new.last ≡ old.last = ap (λ (p : Point). p.last) r in
-      let upto : new.upto ≡ old.upto = ap (λ (p : Point). p.upto) r in
-      record {
-        exchanges = [];
-        run = ap (λ (p : Point). p.state) r;
-        same = ap (map asked_of) (sym stand);
-        remembered = tt;
-        later = omega arith;
-        promised = omega arith;
-      }
+  runs_again old [] ys new r stand = search (rules, arith)
   runs_again old (Kept e ∷ es) [] new r stand = absurd stand
   runs_again old (Kept e ∷ es) (y ∷ ys) new r stand =
       let rest = runs_again r.0 es ys new r.2 stand.1 in
@@ -195,7 +165,8 @@ module _ (files : ℕ → Option (List ℕ)) where
   runs_again old (NumbersUpTo n ∷ es) ys new r stand = absurd stand
   runs_again old (MomentsUpTo m ∷ es) ys new r stand =
       let raised : Point = record old { upto = max old.upto m } in
-      let rest = runs_again raised es ys new (subst (λ (p : Point). Replays (stands_in files) p es new) r.1 r.2) stand in
+      let rest = runs_again raised es ys new (subst (λ (p : Point). Replays (stands_in files) p es new) r.1 r.2) stand
+      in
       record {
         exchanges = rest.exchanges;
         run = rest.run;
@@ -212,15 +183,7 @@ module _ (Has : ℕ → Type 0) (held files : ℕ → Option (List ℕ))
   joins_moved : (fs : List BodyFile) (bytes : List ℕ) → All Has (map (λ (file : BodyFile). file.number) fs)
       → Joins (stands_in held) fs bytes → Joins (stands_in files) fs bytes
   joins_moved [] bytes has joins = joins
-  joins_moved (file ∷ fs) bytes has joins =
-      let rest = map (λ (f : BodyFile). f.number) fs in (
-        joins.0,
-        joins.1,
-        joins.2,
-        still file.number (All-head Has file.number rest has) joins.0 joins.3,
-        joins.4,
-        joins_moved fs joins.1 (All-tail Has file.number rest has) joins.5,
-      )
+  joins_moved (file ∷ fs) bytes has joins = search (rules, arith, All-head, All-tail, joins_moved fs joins.1)
 
   body_moved : (body : KeptBody) (bytes : List ℕ) → All Has (body_numbers body) → IsBodyOf (stands_in held) body bytes
       → IsBodyOf (stands_in files) body bytes
@@ -229,26 +192,11 @@ module _ (Has : ℕ → Type 0) (held files : ℕ → Option (List ℕ))
 
   ask_moved : (kept : KeptAsk) (ask : Ask) → All Has (ask_numbers kept) → IsAskOf (stands_in held) kept ask
       → IsAskOf (stands_in files) kept ask
-  ask_moved (Opening name) ask has is = is
-  ask_moved (Single name digest body) ask has is = (is.0, body_moved body is.0 has is.1, is.2)
-  ask_moved (Mount name digest source) ask has is = is
-  ask_moved (Chunk name at range body) ask has is = (is.0, body_moved body is.0 has is.1, is.2)
-  ask_moved (Close name at range digest body) ask has is = (is.0, body_moved body is.0 has is.1, is.2)
+  ask_moved kept ask has is = search (rules, arith, body_moved)
 
   applied_moved : (old : Point) (e : Entry) (new : Point) → All Has (entry_numbers e)
       → Applies (stands_in held) old e new → Applies (stands_in files) old e new
-  applied_moved old (Kept entry) new has a = (
-    a.0,
-    record {
-      ask = ask_moved entry.ask a.0.ask has a.1.ask;
-      secret = a.1.secret;
-      now = a.1.now;
-      answer = a.1.answer;
-    },
-    a.2,
-  )
-  applied_moved old (NumbersUpTo n) new has a = a
-  applied_moved old (MomentsUpTo m) new has a = a
+  applied_moved old e new has a = search (rules, arith, ask_moved)
 
   pub replays_moved : (old : Point) (es : List Entry) (new : Point) → All IsEntry es
       → All (λ text. All Has (numbers_of text)) (map entry_text es) → Replays (stands_in held) old es new

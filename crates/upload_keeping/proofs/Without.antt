@@ -1,13 +1,11 @@
 -- A keeping begins over a store without the records that are lost.
-use Rattle.std.proofs.Common.{◌≡◌, ◌≤◌, ℕ, [], sym, ap, subst, IsTrue}
+use Rattle.std.proofs.Common.{◌≡◌, ◌≤◌, ℕ, [], sym, ap, subst, IsTrue, arith, rules}
 use Rattle.std.specs.List.{All}
 use Rattle.sqlite_disk.specs.declared.Disk.{Ghosts}
 use Rattle.sqlite_disk.specs.Disk.{MoreFaults}
 use Rattle.bodies.specs.declared.shelf.Shelf as shelves
 use Rattle.journal.specs.Errors.{Because, WhyNot}
 use Rattle.journal.specs.declared.error.Error.{Error}
-use Rattle.journal.specs.declared.error.Error.TheVariants.{Closed, NotAJournal, OtherVersion, OtherParameters}
-use Rattle.journal.specs.declared.error.Error.TheVariants.{TooLong, NoMemory, Disk, Machine}
 use Rattle.upload_service.specs.Machine.{State, empty_state}
 use Rattle.upload_journal.specs.Replay.{Point}
 use Rattle.upload_store.specs.Faults.{ComesBy, Never, NoBody, NoRecord}
@@ -31,7 +29,8 @@ module _ {D S F : Type 0} {g : Ghosts D} {s : shelves.Ghosts S F} {f : Ghosts F}
   pub record Saved (old was : Store D S F g s f) (point : Point) (losses : Losses) : Type 0 where
     pub ran : IsClean was
         → IsSalvageOf (records_of old) (s.held (shelf_of was))
-        (MoreFaults (s.faults (shelf_of old)) (s.faults (shelf_of was))) (start_of (empty_state (limits_of old) 0)) point
+        (MoreFaults (s.faults (shelf_of old)) (s.faults (shelf_of was))) (start_of (empty_state (limits_of old) 0))
+        point
         losses.count losses.listed.items
     pub same : IsClean was → records_of was ≡ records_of old
     pub unnamed : IsClean was
@@ -40,7 +39,8 @@ module _ {D S F : Type 0} {g : Ghosts D} {s : shelves.Ghosts S F} {f : Ghosts F}
 
 module _ {D S H F : Type 0} {g : Ghosts D} {s : shelves.Ghosts S F} {f : Ghosts F} where
   -- and what began over it
-  pub record Over (was : Store D S F g s f) (k : StoreKeeping D S H F g s f) (service : State) (since : ℕ) (point : Point)
+  pub record Over (was : Store D S F g s f) (k : StoreKeeping D S H F g s f) (service : State) (since : ℕ)
+      (point : Point)
       (losses : Losses) : Type 0 where
     pub none : kept_of k ≡ []
     pub opened : opened_of k ≡ store_of k
@@ -105,18 +105,9 @@ module _ {D S H F : Type 0} {g : Ghosts D} {s : shelves.Ghosts S F} {f : Ghosts 
 
 why_not : (closed long long2 disk same : Type 0) → (long → long2) → (error : Error) → WhyNot closed long disk same error
     → Because closed Never long2 disk Never error
-why_not closed long long2 disk same longer Closed why = why.0
-why_not closed long long2 disk same longer NotAJournal why = why
-why_not closed long long2 disk same longer OtherVersion why = why
-why_not closed long long2 disk same longer OtherParameters why = why
-why_not closed long long2 disk same longer TooLong why = longer why.0
-why_not closed long long2 disk same longer NoMemory why = absurd (cc why)
-why_not closed long long2 disk same longer (Disk error) why = why
-why_not closed long long2 disk same longer (Machine error) why = why
+why_not closed long long2 disk same longer error why = search (rules, arith)
 
 pub not_noted : (closed long long2 disk same : Type 0) → (long → long2) → (fault : StoreFault)
     → ComesBy (WhyNot closed long disk same) NoBody NoRecord Never fault
     → ComesBy (Because closed Never long2 disk Never) NoBody NoRecord Never fault
-not_noted closed long long2 disk same longer fault =
-    comes_weaker _ _ NoBody NoBody NoRecord NoRecord Never Never (why_not closed long long2 disk same longer)
-    (λ body why. why) (λ it why. why) (λ why. why) fault
+not_noted closed long long2 disk same longer fault = search (rules, arith, comes_weaker, why_not)

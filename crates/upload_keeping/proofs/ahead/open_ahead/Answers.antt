@@ -1,6 +1,5 @@
-use Rattle.std.proofs.Common.{◌≡◌, ◌∙◌, sym, subst, refl, IsTrue}
+use Rattle.std.proofs.Common.{◌≡◌, ◌∙◌, sym, subst, refl, IsTrue, arith, rules}
 use Rattle.upload_service.specs.Machine.{empty_state}
-use Rattle.upload_service.specs.declared.limits.Limits.{Limits}
 use Rattle.upload_journal.specs.Replay.{Point}
 use Rattle.upload_store.specs.Runs.{IsReplayOf, start_of}
 use Rattle.upload_store.specs.Store.{IsClean, IsWhole, disk_of, kept_of, shelf_of, limits_of}
@@ -11,16 +10,7 @@ use Rattle.upload_keeping.proofs.Known.{told_ok, told_err}
 use Rattle.upload_keeping.proofs.ahead.open_ahead.Goals as goal
 
 pub begin-requires-clause-ran : goal.begin-requires-clause-ran
-begin-requires-clause-ran g c whole clean =
-    let told = c.recover_ahead-store.ensures in
-    let known = c.in-Ok.is in
-    let now = c.recover_ahead-store.result.0 in
-    let files = g.S.Shelf.held (shelf_of now) in
-    let replay = c.in-Ok.replay in
-    let begin = start_of (empty_state (limits_of c.args.store) 0) in
-    subst (λ (l : Limits). IsReplayOf (kept_of now) files (start_of (empty_state l 0)) replay) (sym told.limits)
-    (subst (λ all. IsReplayOf all files begin replay) (sym (told_ok _ _ _ known told.same clean))
-    (told_ok _ _ _ known told.ran clean))
+begin-requires-clause-ran g c whole clean = search (rules, arith, told_ok)
 
 pub returns-in-Ok-clause-recovered : goal.returns-in-Ok-clause-recovered
 returns-in-Ok-clause-recovered g c =

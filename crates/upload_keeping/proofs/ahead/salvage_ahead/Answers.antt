@@ -1,8 +1,5 @@
-use Rattle.std.proofs.Common.{inl, inr, sym, subst}
-use Rattle.upload_service.specs.Machine.{empty_state}
-use Rattle.upload_service.specs.declared.limits.Limits.{Limits}
-use Rattle.upload_store.specs.Runs.{IsReplayOf, start_of}
-use Rattle.upload_store.specs.Store.{disk_of, kept_of, shelf_of, limits_of}
+use Rattle.std.proofs.Common.{inl, inr, sym, subst, arith, rules}
+use Rattle.upload_store.specs.Store.{disk_of, shelf_of}
 use Rattle.upload_store.specs.declared.losses.Losses.{Losses}
 use Rattle.upload_keeping.specs.Begun.{BeginsWithout}
 use Rattle.upload_keeping.proofs.Known.{told_ok, told_err}
@@ -16,7 +13,8 @@ returns-in-Ok-begin_without-clause-salvaged g c =
     let saved = c.in-Ok.saved in
     let kept = c.in-Ok-begin_without.salvaged.kept in
     let over = c.in-Ok-begin_without.ensures in
-    subst (λ (losses : Losses). BeginsWithout c.args.store kept.keeping kept.service kept.since losses) (sym over.losses)
+    subst (λ (losses : Losses). BeginsWithout c.args.store kept.keeping kept.service kept.since losses)
+    (sym over.losses)
     (begins_without c.args.store c.salvage_ahead-store.result.0 kept.keeping kept.service kept.since saved.replay
     saved.losses
     (record {
@@ -56,13 +54,4 @@ returns-in-Err-begin_without-clause-cause g c =
     )
 
 pub begin_without-requires-clause-whole : goal.begin_without-requires-clause-whole
-begin_without-requires-clause-whole g c none clean =
-    let told = c.salvage_ahead-store.ensures in
-    let known = c.in-Ok.is in
-    let now = c.salvage_ahead-store.result.0 in
-    let files = g.S.Shelf.held (shelf_of now) in
-    let saved = c.in-Ok.saved in
-    let start = start_of (empty_state (limits_of c.args.store) 0) in
-    subst (λ (l : Limits). IsReplayOf (kept_of now) files (start_of (empty_state l 0)) saved.replay) (sym told.limits)
-    (subst (λ all. IsReplayOf all files start saved.replay) (sym (told_ok _ _ _ known told.same clean))
-    ((told_ok _ _ _ known told.ran clean).none_lost none))
+begin_without-requires-clause-whole g c none clean = search (rules, arith, told_ok)

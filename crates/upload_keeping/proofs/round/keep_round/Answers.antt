@@ -36,7 +36,8 @@ returns-in-Ok-append-clause-kept g c opened since kept waiting goes settled awai
     let more =
     promise_more (IsSafe g.S.Shelf.held g.S.Shelf.may_leave (shelf_of old)) (IsClean old) upto c.in-Ok.next waiting
     (batch_records c.args.batch.now) texts c.in-Ok.ensures.promises awaits in (
-      settled_on opened old c.append.new.self since kept waiting upto more.more c.args.time texts goes settled more.holds
+      settled_on opened old c.append.new.self since kept waiting upto more.more c.args.time texts goes settled
+          more.holds
           c.append.ensures.clean c.append.ensures.shelf c.in-Ok.next more.reaches c.in-Ok-append.ensures.open
           (c.append.ensures.whole settled.stays_open) c.in-Ok-append.ensures.added,
       goes_on opened old c.append.new.self since kept waiting upto more.more c.args.time texts goes settled more.holds

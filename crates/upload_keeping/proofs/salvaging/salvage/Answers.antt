@@ -14,7 +14,8 @@ returns-in-Ok-begin_without-clause-salvaged g c =
     let kept = c.in-Ok-begin_without.salvaged.kept in
     let saved = c.in-Ok.saved in
     let over = c.in-Ok-begin_without.ensures in
-    subst (λ (losses : Losses). BeginsWithout c.args.store kept.keeping kept.service kept.since losses) (sym over.losses)
+    subst (λ (losses : Losses). BeginsWithout c.args.store kept.keeping kept.service kept.since losses)
+    (sym over.losses)
     (begins_without c.args.store c.salvage.new.self kept.keeping kept.service kept.since saved.replay saved.losses
     (record {
       ran = c.in-Ok.ensures.ran;

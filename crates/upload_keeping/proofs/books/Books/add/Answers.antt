@@ -1,5 +1,6 @@
 use Rattle.upload_intake.specs.Safety.{answered_so}
-use Rattle.upload_keeping.proofs.Going.{is_fault, is_fine, was_put, one_more_waits, kept_no_more, kept_more, goes_nowhere}
+use Rattle.upload_keeping.proofs.Going.{is_fault, is_fine, was_put, one_more_waits, kept_no_more, kept_more}
+use Rattle.upload_keeping.proofs.Going.{goes_nowhere}
 use Rattle.std.proofs.Common.{refl}
 use Rattle.upload_keeping.proofs.books.Books.add.Goals as goal
 
@@ -21,5 +22,6 @@ returns-clause-kept g c kept ready =
     (is_fine b.fault c.is_some.result c.is_some.ensures c.if-is_some.false) b.store c.put_entry-put.new.batch
     c.err-self.result refl (λ whole. whole) (goes_nowhere b.store) c.kept_is_on_the_disk.ensures
     (λ none xs clean awaits still.
-    was_put _ c.put_entry-put.result c.err-self.result c.err-self.ensures.value c.put_entry-put.ensures none c.args.noted.note
+    was_put _ c.put_entry-put.result c.err-self.result c.err-self.ensures.value c.put_entry-put.ensures none
+    c.args.noted.note
     xs ready.drafted (awaits still))

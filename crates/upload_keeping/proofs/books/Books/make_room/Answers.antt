@@ -1,4 +1,4 @@
-use Rattle.std.proofs.Common.{sym, ◌∙◌}
+use Rattle.std.proofs.Common.{sym, ◌∙◌, arith, rules}
 use Rattle.upload_keeping.proofs.Going.{is_fine, goes_by_shelf, kept_with_room, kept_shut}
 use Rattle.upload_keeping.proofs.books.Books.make_room.Goals as goal
 
@@ -19,8 +19,4 @@ returns-then-is_open-clause-kept g c kept =
     (goes_by_shelf b.store r.new.self r.ensures.shelf r.ensures.clean) r.ensures.shelf up (r.ensures.same up)
 
 pub returns-else-is_want_of_room-clause-kept : goal.returns-else-is_want_of_room-clause-kept
-returns-else-is_want_of_room-clause-kept g c kept =
-    let b = c.args.self.now in
-    let r = c.reserve in
-    kept_shut b kept (is_fine b.fault c.is_some.result c.is_some.ensures c.if-is_some.false) r.new.self
-    (goes_by_shelf b.store r.new.self r.ensures.shelf r.ensures.clean) r.ensures.shelf _ r.ensures.any_crash
+returns-else-is_want_of_room-clause-kept g c kept = search (rules, arith, kept_shut, is_fine, goes_by_shelf)

@@ -13,5 +13,6 @@ returns-clause-kept g c =
     let store = c.args.store in
     kept_at_first _ c.requires.open refl c.of.ensures (ap moment_of c.of-2.ensures ∙ sym c.moment-moment.ensures)
     (ap (flat_map recorded_in) c.none.ensures) (ap recorded_in c.none-2.ensures) c.new.ensures
-    (subst (λ (p : Point). IsTrue c.args.is_whole → IsClean store → IsReplayOf (kept_of store) (g.S.Shelf.held (shelf_of store))
+    (subst (λ (p : Point). IsTrue c.args.is_whole → IsClean store
+    → IsReplayOf (kept_of store) (g.S.Shelf.held (shelf_of store))
     (start_of (empty_state (limits_of store) 0)) p) (sym c.of-2.ensures) c.requires.ran)

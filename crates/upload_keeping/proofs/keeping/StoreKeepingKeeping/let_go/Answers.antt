@@ -1,4 +1,4 @@
-use Rattle.std.specs.Prelude.{Option, IfSome}
+use Rattle.std.specs.Prelude.{IfSome}
 use Rattle.std.proofs.Common.{sym, subst}
 use Rattle.std.proofs.Math.Logic.{∥∥₁_map₂}
 use Rattle.upload_keeping.specs.Ready.{IsReady}
@@ -9,7 +9,8 @@ invariant_of-self g c =
     record {
       kept =
           ∥∥₁_map₂ c.args.self.now.kept
-          (subst (λ o. ∥ IfSome o (IsReady c.args.self.now.books) ∥₁) (sym c.in-Some.ensures.value) c.args.self.now.ready)
+          (subst (λ o. ∥ IfSome o (IsReady c.args.self.now.books) ∥₁) (sym c.in-Some.ensures.value)
+          c.args.self.now.ready)
           c.let_go.ensures.kept;
       ready = ∣ subst (λ o. IfSome o (IsReady c.let_go.new.self)) (sym c.take.ensures.after) tt ∣₁;
     }
