@@ -6,7 +6,9 @@ use crate::fault::DataFault;
 use crate::files::{amount_but, list_files, note_named};
 use crate::line::line_of;
 use crate::loss::{tell_final, tell_mended};
-use crate::open::{FRESH, JOURNAL, has_bodies, mend_all, open_journal, open_shelf, refuse_cut};
+use crate::open::{
+    FRESH, JOURNAL, MOST_MENDED, has_bodies, mend_all, open_journal, open_shelf, refuse_cut,
+};
 use crate::texts::StoreText;
 use blobd_shared::{ByteCount, Quantity};
 use bodies::{AheadShelf, Holds, Shelf};
@@ -202,7 +204,12 @@ fn look_first<D: Disk>(
         Ok(0) => Ok(looked),
         Ok(mended) => {
             tell_mended(rt, path, mended);
-            look_at(rt, journal, named)
+            let looked = look_at(rt, journal, named)?;
+            // Past its end there may be records that only another start brings back.
+            if mended == MOST_MENDED && looked.ending != Ending::Sound {
+                return Err(CompactingFault::Data(DataFault::HalfMended));
+            }
+            Ok(looked)
         }
         Err(error) => Err(CompactingFault::Compact(CompactFault::Old(StoreFault::Journal(error)))),
     }
@@ -255,7 +262,8 @@ fn sweep_by<D: Disk + Drop, S: Shelf + Drop>(
 /// is there.
 ///
 /// `NoJournal`: there is none, or no folder. `Data`: the folder, its journal or its bodies can't be opened, another
-/// server has it, its bodies are missing, or its journal was cut before its first record. `BrokenJournal`: the journal
+/// server has it, its bodies are missing, its journal was cut before its first record, or more sectors of that are
+/// damaged than are mended at once. `BrokenJournal`: the journal
 /// ends as no crash leaves it; a start may mend it. `Fresh`: the new journal can't be made. `Compact`: the old one has
 /// another format, another version or other limits, it can't be read, or a record of it can't be run again; or the new
 /// one can't be written or isn't the same; or there is no memory. After these no record of the directory is changed,

@@ -41,7 +41,7 @@ pub(crate) const BEGUN: usize = 8_192;
 pub(crate) const BODIES: &str = "bodies";
 
 /// A start mends so many damaged sectors of a journal at most, since the journal is read once more for each.
-const MOST_MENDED: u64 = 4_096;
+pub(crate) const MOST_MENDED: u64 = 4_096;
 
 /// What a file system has in its own folder.
 const LOST_AND_FOUND: &str = "lost+found";
