@@ -26,7 +26,7 @@ FORM = re.compile(r"(http://)?([^/]+:[0-9]+)/?")
 PLACE = re.compile(r"[^/]+:[0-9]+")
 # how long the registry may take for a connection, and then for each part of a reply, in seconds
 PATIENCE = 10
-# a wait is told behind so many
+# a wait is told after so many
 TOLD = 3
 # what is wrong, by the status of GET /v2/
 WRONG = {

@@ -81,7 +81,7 @@ def what_is_there(server, client, place, empty):
 
 @case()
 def what_stays_and_what_goes(folder):
-    """Behind it all that was there is there, in less room. A second one changes nothing. Uploads go on."""
+    """After it all that was there is there, in less room. A second one changes nothing. Uploads go on."""
     path = os.path.join(folder, "data")
     place, empty = filled(path)
     before, was = room(path), files(path)
@@ -379,7 +379,7 @@ def first_told(path, count, **variables):
 @case()
 def a_start_makes_room(folder):
     """It gives much room back by itself, and says so; the next one has nothing to give. One without the memory for it,
-    or behind one that was cut off, starts all the same, and says why it gave none."""
+    or after one that was cut off, starts all the same, and says why it gave none."""
     path = os.path.join(folder, "data")
     wasteful(path)
     told = first_told(path, 36, BLOBD_MEMORY="100M")
@@ -389,7 +389,7 @@ def a_start_makes_room(folder):
         pass
     told = first_told(path, 36)
     wanted = f"blobd: {path} wasn't compacted: it was cut off the last time; the next start tries it again\n"
-    equal("behind one that was cut off", told, wanted)
+    equal("after one that was cut off", told, wanted)
     told = first_told(path, 16)
     wanted = rf"blobd: {re.escape(path)} was compacted in \d+\.\d s: \d+ records became \d+, 20 files went\n"
     check("it says so", re.fullmatch(wanted, told), told)

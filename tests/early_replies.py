@@ -102,7 +102,7 @@ def test_servers_that_refuse_and_read_no_more(folder):
 
 @case("cc")
 def test_servers_that_say_nothing_and_read_no_more(folder):
-    """Behind half a minute, which takes a second here, the request isn't heard, and no reply to it is waited for."""
+    """After half a minute, which takes a second here, the request isn't heard, and no reply to it is waited for."""
     fast, half = shims.loaded(folder, "minutes"), len(LARGE) // 2
     held = reply(204, b"Location: " + PLACE, b"Range: 0-%d" % (half - 1))
     again = {"GET": held, "PATCH": taken(len(LARGE) - 1), "PUT": CREATED}

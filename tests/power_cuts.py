@@ -4,13 +4,13 @@
     power_cuts.py PROGRAM [--cuts N] [--seed S]
 
 Clients open uploads, send chunks, close, mount and store while each call on the directory is noted
-(tests/shims/disks.c). Then the directory is made as a cut behind one of these calls may leave it
+(tests/shims/disks.c). Then the directory is made as a cut after one of these calls may leave it
 (tests/harness/disks.py), and a server is started on that. Each client's uploads and blobs are those behind the last
 request that it heard the answer of, or the next one's. Some starts are cut as well, at one of their own calls.
 
-`blobd compact` is cut at each of its calls too: a start behind that has all that there was, and so it has behind a second
-compact. So is one with a list of what is referred to: what that has is there behind each cut, and what else is there is
-what was there. So is a start that compacts by itself. Behind each the bodies are those of before, or of the compaction, and
+`blobd compact` is cut at each of its calls too: a start after that has all that there was, and so it has after a second
+compact. So is one with a list of what is referred to: what that has is there after each cut, and what else is there is
+what was there. So is a start that compacts by itself. After each the bodies are those of before, or of the compaction, and
 nothing is left of what was cut.
 """
 import collections
@@ -45,7 +45,7 @@ State = collections.namedtuple("State", ["uploads", "blobs"])
 
 
 class Story:
-    """What a client asked, in order: the state behind each request, and where the notes ended as it heard the
+    """What a client asked, in order: the state after each request, and where the notes ended as it heard the
     answer."""
 
     def __init__(self, number, notes):
@@ -183,7 +183,7 @@ def left_over(data, allowed=None):
 
 
 def after_start(server, data, stories, end, allowed=None):
-    """What is wrong with what a server has behind a cut, and with what is in its directory."""
+    """What is wrong with what a server has after a cut, and with what is in its directory."""
     if not server.first_line.startswith("listening "):
         server.stop()
         return [f"it doesn't start: {server.first_line!r}"]
@@ -195,22 +195,22 @@ def after_start(server, data, stories, end, allowed=None):
             if (found := story.found(client)) not in (allowed := story.allowed(end))
         ]
         more = client.push("lib/more", b"goes on" * 20_000, 70_000)
-        return wrong + ([] if more[-1] == 201 else [f"a push behind it: {more}"])
+        return wrong + ([] if more[-1] == 201 else [f"a push after it: {more}"])
 
 
 def cut(stories, notes, number):
-    """Cuts at a call, perhaps cuts the start behind that, and gives what is wrong then."""
+    """Cuts at a call, perhaps cuts the start after that, and gives what is wrong then."""
     dice = random.Random(OPTIONS.seed * 1_000_000 + number)
     count = 1 + number % len(notes)
     left = disks.Disk().behind(notes[:count]).left(dice)
     if dice.random() < 0.3:
         left = cut_start(left, dice)
     wrong = started(left, stories, notes[count - 1].end)
-    return [f"cut behind call {count} of {len(notes)}: {line}" for line in wrong]
+    return [f"cut after call {count} of {len(notes)}: {line}" for line in wrong]
 
 
 def started(left, stories, end):
-    """What is wrong as a server starts on what a cut left behind the notes up to this place."""
+    """What is wrong as a server starts on what a cut left after the notes up to this place."""
     with tempfile.TemporaryDirectory(dir=memory()) as folder:
         data = os.path.join(folder, "data")
         disks.make(data, left)
@@ -290,7 +290,7 @@ def compacted(folder, data, keep):
 
 
 class Kept(Story):
-    """The same of which a list refers to some blobs: the others may be there behind a cut, or not."""
+    """The same of which a list refers to some blobs: the others may be there after a cut, or not."""
 
     def __init__(self, story, referred):
         # the parts of the story, which goes on no more
@@ -320,7 +320,7 @@ def bare_start(folder, data):
 
 
 class Compaction:
-    """One that is cut: what does it, what was there before, the calls, and the stories that are there behind it."""
+    """One that is cut: what does it, what was there before, the calls, and the stories that are there after it."""
 
     def __init__(self, run, data, stories):
         self.run, self.stories = run, stories
@@ -340,7 +340,7 @@ class Compaction:
             with open(os.path.join(folder, "told"), "w+", encoding="utf-8") as told:
                 wrong += after_start(serving(data, stderr=told), data, self.stories, END, self.allowed)
                 told.seek(0)
-                return [f"cut behind call {count} of {len(self.notes)}: {line} {told.read()}" for line in wrong]
+                return [f"cut after call {count} of {len(self.notes)}: {line} {told.read()}" for line in wrong]
 
     def again(self, folder, data):
         (status, told, more), _ = self.run(folder, data)

@@ -114,7 +114,7 @@ def servers_that_come_again(folder):
 
 @case("cc")
 def servers_that_stay_away(folder):
-    """Where nobody listens one ask dials for a minute, and those behind it once each. That is told once, and a terminal
+    """Where nobody listens one ask dials for a minute, and those after it once each. That is told once, and a terminal
     sees how long it goes on."""
     abc, hasty = written(folder, b"abc"), shims.loaded(folder, "minutes")
     addr = servers.free_address()
@@ -214,8 +214,8 @@ def what_only_seems_to_be_there(folder):
     }
     for name, reply in replies.items():
         with Scripted([{"HEAD": reply, "POST": reply_of("403 Forbidden")}]) as server:
-            equal(f"a push behind {name}", push(server.addr, "lib/a", abc, 2), ("refused: 403 -\n", 1, ""))
-            equal(f"what was asked behind {name}", server.methods(), [["HEAD"], ["HEAD"], ["POST"]])
+            equal(f"a push after {name}", push(server.addr, "lib/a", abc, 2), ("refused: 403 -\n", 1, ""))
+            equal(f"what was asked after {name}", server.methods(), [["HEAD"], ["HEAD"], ["POST"]])
     with Scripted([head_of(3, told % sha256(b"abc").encode())]) as server:
         equal("a server that tells the digest", push(server.addr, "lib/a", abc, 2), already(b"abc"))
 
@@ -230,7 +230,7 @@ def finds_no_room(name, server, *words):
 
 @case()
 def a_full_server(folder):
-    """A server that has no more room gives a push up, which says so: behind some of its chunks, at the first, and at
+    """A server that has no more room gives a push up, which says so: after some of its chunks, at the first, and at
     its opening. What was stored is there, and with more memory the same push goes well."""
     stored, chance, data = [], random.Random(9), os.path.join(folder, "data")
     content = chance.randbytes(20 * MIB)

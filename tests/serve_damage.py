@@ -92,7 +92,7 @@ def what_is_told_behind_losses_is_there(folder):
             check("the chunk is named", len(told) == 1 and told[0].endswith(
                 f"its text has changed; lost: upload 16777217 of {NAME}, up to byte 7\n"), told)
             equal("what hung on the chunk", held(client, first), (204, 0))
-            equal("what was opened behind it", [held(client, other) for other in uploads], [(204, 0)] * len(uploads))
+            equal("what was opened after it", [held(client, other) for other in uploads], [(204, 0)] * len(uploads))
             if sent is None:
                 equal("the blob of the upload", pull(server, NAME, sha256(content)), content)
                 break
@@ -199,7 +199,7 @@ def damaged_anywhere(folder):
                 spoiled = spoiled_by(journal, at, upload) if file == "journal" else set()
                 check("what is lost is named", missing <= named | spoiled, (place, lines, missing))
                 check("it doesn't start if it is to be strict", is_strict, place)
-                has_all("what was pushed behind it", server, pushed)
+                has_all("what was pushed after it", server, pushed)
                 equal("a push", client.push(NAME, b"more")[-1], 201)
         shutil.rmtree(bad)
 

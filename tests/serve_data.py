@@ -20,7 +20,7 @@ from harness.wire import request_text, sha256, sha512
 @case()
 def what_was_answered_is_there(folder):
     """After a kill each blob is there byte for byte, in each repository that has it, and an upload goes on under its
-    reference at its offset. So it is behind a second kill."""
+    reference at its offset. So it is after a second kill."""
     path = os.path.join(folder, "data")
     begun, sized = random.Random(1).randbytes(200_000), 70_000
     with serving(path) as server, server.client() as client:
@@ -33,7 +33,7 @@ def what_was_answered_is_there(folder):
         equal("chunks of an upload", client.send_chunks(place, begun[:140_000], sized), [202, 202])
     for time_ in ("first", "second"):
         with serving(path) as server, server.client() as client:
-            has_all(f"the blobs behind the {time_} kill", server, CONTENTS)
+            has_all(f"the blobs after the {time_} kill", server, CONTENTS)
             others = [pull(server, "lib/b", sha256(CONTENTS[at])) for at in (1, 2)]
             equal("the repository into which one was mounted", others, [404, CONTENTS[2]])
             equal("the blob under its SHA-512", pull(server, NAME, sha512(CONTENTS[1])), CONTENTS[1])
@@ -114,7 +114,7 @@ def idle_hour(folder):
     with serving(path, env=clock) as server, server.client() as client:
         places = [client.opened(NAME) for _ in range(2)]
         shims.pass_time(ahead, 3_000)
-        equal("a chunk behind fifty minutes", client.send_chunks(places[1], b"a"), [202])
+        equal("a chunk after fifty minutes", client.send_chunks(places[1], b"a"), [202])
     with serving(path, env=clock) as server, server.client() as client:
         # this server's time begins here, at the latest as it answers
         equal("an upload after a restart", held(client, places[0]), (204, 0))
@@ -122,7 +122,7 @@ def idle_hour(folder):
         early = [held(client, place) for place in places]
         shims.pass_time(ahead, 3_000 + 700)
         late = [held(client, place) for place in places]
-        equal("uploads within the hour, and behind it", [early, late],
+        equal("uploads within the hour, and after it", [early, late],
               [[(204, 0), (204, 1)], [(404, None), (204, 1)]])
 
 
@@ -181,7 +181,7 @@ def copied_while_it_serves(folder):
         ran = subprocess.run(["sh", "-euc", lines], capture_output=True, text=True, check=False)
         equal("the copy", (ran.returncode, ran.stderr), (0, ""))
         pushers.end()
-        check("there was something to copy, and more behind it", 20 < len(stored) < len(told.stored), len(stored))
+        check("there was something to copy, and more after it", 20 < len(stored) < len(told.stored), len(stored))
     with serving_the_rest(copy) as server, server.client() as client:
         equal("a start on the copy", server.first_line[:10], "listening ")
         wrong = [key for key, kept in stored.items() if pull(server, *key) != kept]

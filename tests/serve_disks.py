@@ -191,7 +191,7 @@ def answers_while_full(path, server, client, told, place):
     for method, target, body, fields, status in requests:
         equal(f"{method} {target} of {len(body)} bytes", client.ask(method, target, body, **fields).status, status)
     equal("where the upload is", held(client, place), (204, 3))
-    equal("files of bodies behind it", len(bodies(path)), files)
+    equal("files of bodies after it", len(bodies(path)), files)
     has_all("what is stored is handed out", server, told)
 
 
@@ -220,12 +220,12 @@ def filled_again(disk):
         equal("a chunk of another", client.ask("PATCH", place, b"abc").status, 202)
         before = len(told)
         equal("a disk that fills again", fill(client, told, chance), [503] * 5)
-        check("blobs behind it", sum(map(len, told[before:])) > 20 * MIB, len(told))
+        check("blobs after it", sum(map(len, told[before:])) > 20 * MIB, len(told))
         answers_while_full(path, server, client, told, place)
         server.process.kill()
     disk.grow(400)
     with serving(path) as server, server.client() as client:
-        has_all("behind both", server, told)
+        has_all("after both", server, told)
         equal("the upload of then goes on", held(client, place), (204, 3))
 
 

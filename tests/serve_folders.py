@@ -146,7 +146,7 @@ def bodies_of_another_user(folder):
         equal("it isn't there", pull(server, NAME, sha256(large)), 404)
     os.chmod(f"{path}/{body}", 0o600)
     with serving(path) as server:
-        equal("a start behind it", named_losses(server), [])
+        equal("a start after it", named_losses(server), [])
         has_all("all is there", server, FILLED)
 
 

@@ -99,11 +99,11 @@ def goes_on_without(name, path, contents):
     told, status, more_told = run("compact", path)
     equal(f"{name}: a compaction", (status, goes_for_good(path, more_told)), (0, going))
     equal(f"{name}: the files that went", len(was.keys() - bodies(path).keys()), going)
-    is_looked_at(f"{name}: behind a compaction", path, "", None)
+    is_looked_at(f"{name}: after a compaction", path, "", None)
     with serving(path) as server:
         told = server.told(5)
         check(f"{name}: nothing is said any more", HOLDS.fullmatch(told), told)
-        has_all(f"{name}: what is there behind a compaction", server, [*contents[:there], more])
+        has_all(f"{name}: what is there after a compaction", server, [*contents[:there], more])
     return there
 
 
@@ -228,7 +228,7 @@ def cut_before_its_first_record(folder):
     shutil.rmtree(f"{path}/bodies")
     os.mkdir(f"{path}/bodies", 0o700)
     with serving(path) as server, server.client() as client:
-        equal("a push behind a journal that was cut, without bodies", client.push(NAME, b"a")[-1], 201)
+        equal("a push after a journal that was cut, without bodies", client.push(NAME, b"a")[-1], 201)
 
 
 @case()

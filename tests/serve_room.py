@@ -99,7 +99,7 @@ def posted_alone(server, content):
 @case()
 def room_comes_back():
     """What an upload or a body takes comes back with it: as often as one that fits is begun and cut, a blob of the same
-    size is stored behind it."""
+    size is stored after it."""
     chance = random.Random(OPTIONS.seed)
     content = chance.randbytes(8 * MIB)
     with serving() as server:
@@ -139,7 +139,7 @@ def idle_uploads(folder):
             equal("another, while they aren't idle", [uploaded(client, content) for _ in range(3)], [503] * 3)
             shims.pass_time(ahead, 3_700)
             statuses = until(202, lambda: uploaded(client, content))
-            equal(f"another, behind {len(statuses) - 1} that were refused", statuses[-1], 202)
+            equal(f"another, after {len(statuses) - 1} that were refused", statuses[-1], 202)
             has_all("what is stored is handed out", server, [blob])
 
 

@@ -41,13 +41,13 @@ class Listener:
 
 
 def reply_of(status, body=b"", fields=b""):
-    """A whole reply, behind which its server closes."""
+    """A whole reply, after which its server closes."""
     head = b"HTTP/1.1 %b\r\n%bContent-Length: %d\r\nConnection: close\r\n\r\n"
     return head % (status.encode(), fields, len(body)) + body
 
 
 def head_of(length, fields=b""):
-    """A reply to a HEAD that tells this length, behind which its server closes."""
+    """A reply to a HEAD that tells this length, after which its server closes."""
     return b"HTTP/1.1 200 OK\r\n%bContent-Length: %d\r\nConnection: close\r\n\r\n" % (fields, length)
 
 

@@ -30,7 +30,7 @@ FULL = (
 # and if its table of uploads is full
 TABLE_FULL = (
     "blobd: uploads are refused (429) for want of room: its table of open ones is full, or its last number was issued; "
-    "one goes as it is closed or cancelled, or behind an hour without a chunk\n"
+    "one goes as it is closed or cancelled, or after an hour without a chunk\n"
 )
 
 # Requests as they are sent.

@@ -59,11 +59,11 @@ over_them {asked = asked} host state keeps {p} {mid} {new} {end} at same push =
     let over = dialed asked host state keeps at mid same (log_of p push.heard) new push.leads in
     (record { heard = push.heard; leads = over.0; ends = push.ends }, over.1)
 
--- whether a look found the blob, by what was seen behind it
+-- whether a look found the blob, by what was seen after it
 pub seen_so : {host name : List ℕ} {digest : Digest} {start : Dialing} (size : ℕ) (look : Look host name digest start)
     (sight : Sight) (blob : Bool) (after : Dialing) → true ≡ is_found look.heard → blob ≡ is_blob sight
     → AreSeen host name digest size look.behind sight after → IsLooked size look blob after
-seen_so size look h h1 after found is seen = search (rules, arith, false_true)
+seen_so size look sight blob after found is seen = search (rules, arith, false_true)
 
 -- the same push, of a name that is equal, of the file's digest, to an equal host, and from an equal start
 same_push : (at host own name file : List ℕ) (chunk : ℕ) (digest : Digest) (before start after : Dialing)
@@ -231,7 +231,7 @@ by_sent host p old new behind end before after result (inr (inr (lacks, begun)))
 was_looked : {host name : List ℕ} {digest : Digest} {start : Dialing} (size : ℕ) (look : Look host name digest start)
     (found : Bool) (mid : Dialing) → IsLooked size look found mid
     → (mid ≡ look.behind) ⊎ ((sight : Sight) × AreSeen host name digest size look.behind sight mid)
-was_looked size look h mid is = search (rules, arith)
+was_looked size look found mid is = search (rules, arith)
 
 was_confirmed : (host name : List ℕ) (digest : Digest) (size : ℕ) (last behind : Dialing)
     (pushed end : Result Outcome PushFault) → IsConfirmed host name digest size last pushed behind end

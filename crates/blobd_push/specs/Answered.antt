@@ -24,7 +24,7 @@ pub record IsReply (head_only : Bool) (text : List ℕ) (status : ℕ) : Type 0 
   pub tells : TellsHeard head_only text input heard keep
   pub is_status : heard.status ≡ status
 
--- The last connection of a push to this host was given back behind this request, which is the last that was written
+-- The last connection of a push to this host was given back after this request, which is the last that was written
 -- over it, and after a reply with this status, the last that was read over it.
 pub record EndsAnswered (host : List ℕ) (ask : Ask) (status : ℕ) (old new : List ConnEvent) : Type 0 where
   pub since : List ConnEvent
@@ -37,7 +37,7 @@ pub record EndsAnswered (host : List ℕ) (ask : Ask) (status : ℕ) (old new : 
       ++ given_back (record { bytes = told ++ reply; ended = ended }) (asked ++ ask_text ask host) ∷ []
   pub answers : IsReply (wants_head ask) reply status
 
--- The last connection of a push to this host was made for a HEAD of this blob, and given back behind it: that is all
+-- The last connection of a push to this host was made for a HEAD of this blob, and given back after it: that is all
 -- that was written over it, and what was read begins with a head that shows the blob, of this length.
 pub record EndsSeen (host name : List ℕ) (digest : Digest) (size : ℕ) (old new : List ConnEvent) : Type 0 where
   pub since : List ConnEvent
@@ -49,9 +49,9 @@ pub record EndsSeen (host name : List ℕ) (digest : Digest) (size : ℕ) (old n
 abbrev pub PrintsDigest : List ℕ → Digest → Option (List ℕ) → Option (List ℕ) → Type 0
 PrintsDigest word digest before after = Appends before after (line (word ++ (codes " " ++ digest_text digest)))
 
--- A push that ends with 0 was answered. `pushed` was printed behind a 201 to a close of an upload under the file's
+-- A push that ends with 0 was answered. `pushed` was printed after a 201 to a close of an upload under the file's
 -- digest, and `already` after a reply to a HEAD of it that shows the file's length and no other digest; nothing came
--- behind either on any connection.
+-- after either on any connection.
 abbrev pub PushesAreAnswered : Type 0
 PushesAreAnswered =
     (host name file : List ℕ) (chunk : ℕ) (old new : List ConnEvent) (before after : Option (List ℕ))

@@ -9,7 +9,7 @@ use std::{fmt, io};
 /// How many bytes of a server's own words are kept.
 const LONGEST: usize = 240;
 
-/// After how long a server that can't serve is told, in milliseconds.
+/// How long a server that can't serve is waited for before that is told, in milliseconds.
 const TOLD_MILLIS: u64 = 5_000;
 
 /// What a server says of why it refuses or can't serve, as far as it is kept.

@@ -20,9 +20,9 @@ farther pace waited moved =
       has_begun = pace.has_begun;
     }
 
--- The pace behind a read or a write for which the client was waited for so long, and which moved so many bytes. With
+-- The pace after a read or a write for which the client was waited for so long, and which moved so many bytes. With
 -- the first bytes of a request a window begins. A client that moved too little until a window is over is too slow;
--- behind one in which it moved enough another begins.
+-- after one in which it moved enough another begins.
 abbrev pub pace_after : Demand → Pace → ℕ → ℕ → Option Pace
 pace_after demand pace waited moved =
     if not pace.has_begun && nat_lt 0 moved then Some (record { waited = 0; moved = moved; has_begun = true })

@@ -86,7 +86,7 @@ pub record Kept : Type 0 where
   pub doors : List (List ConnEvent)
   pub exchanges : List Exchange
 
--- The same from this service on, and from this moment on. Each exchange that changed something was kept behind what was
+-- The same from this service on, and from this moment on. Each exchange that changed something was kept after what was
 -- kept before, in the order in which they were served, and nothing else was.
 pub record IsKeptOver {L : Lending} {S G O M : Type 0} (m : Means L S G O) (tells : M → ℕ → M → Type 0) (since : ℕ)
     (start : State) (so_many : ℕ → Type 0) (lent back : Kept) : Type 0 where

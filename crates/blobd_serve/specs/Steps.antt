@@ -1,4 +1,4 @@
--- What a worker does behind an accept that failed.
+-- What a worker does after an accept that failed.
 use Rattle.std.specs.Prelude.{ℕ, ◌==◌, ◌||◌, Bool, if◌then◌else◌}
 use Rattle.blobd_serve.specs.declared.steps.Step.{Step}
 use Rattle.blobd_serve.specs.declared.steps.Step.TheVariants.{PassOver, Wait, Stop}
@@ -15,7 +15,7 @@ is_of_connection error =
 abbrev pub is_of_listener : ℕ → Bool
 is_of_listener error = error == 9 || error == 14 || error == 22 || error == 88
 
--- What is done behind an accept that failed: an error of a connection is passed over, one of the listener is the end,
+-- What is done after an accept that failed: an error of a connection is passed over, one of the listener is the end,
 -- and all others are waited out, as EMFILE, ENFILE, ENOBUFS and ENOMEM.
 abbrev pub step_behind : ℕ → Step
 step_behind error =

@@ -194,7 +194,7 @@ impl<'a, R: Clock> Watch<'a, R> {
         }
     }
 
-    /// Counts a call that began then, after which the pace was this, and which moved so many bytes.
+    /// Counts a call that began then, at this pace, and which moved so many bytes.
     fn moved(&mut self, pace: Pace, begun: Option<Instant>, count: usize) {
         let waited = self.waited_since(begun);
         self.pace = pace.after(

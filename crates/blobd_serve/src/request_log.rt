@@ -22,7 +22,7 @@ const NO_HEAD: &str = "-";
 fn want_of_room(status: u16) -> Option<&'static str> {
     match status {
         429 => Some(
-            "blobd: uploads are refused (429) for want of room: its table of open ones is full, or its last number was issued; one goes as it is closed or cancelled, or behind an hour without a chunk",
+            "blobd: uploads are refused (429) for want of room: its table of open ones is full, or its last number was issued; one goes as it is closed or cancelled, or after an hour without a chunk",
         ),
         503 => Some(
             "blobd: requests are refused (503) for want of room: in memory (BLOBD_MEMORY), or on the disk of its data directory, if it has one",

@@ -40,7 +40,7 @@ pub(crate) struct SinceStart<'a, R> {
 }
 
 impl<'a, R: Clock> SinceStart<'a, R> {
-    /// The clock begins now, after so many seconds.
+    /// The clock begins now, with so many seconds passed already.
     pub(crate) fn behind(
         rt: &'a R,
         before: u64,

@@ -22,7 +22,7 @@ pub record HandsBack (p : Push) (closed : State) (between : List Step) (answer :
   pub is_answer : answer ≡ Blob p.digest (length content) (Some content)
   pub is_body : reply_body answer false ≡ content
 
--- FROM END TO END, of a GET: behind the step at which a push was closed, each GET of its blob, of any client on any
+-- FROM END TO END, of a GET: after the step at which a push was closed, each GET of its blob, of any client on any
 -- connection, is answered so, or that memory was out.
 abbrev pub FilesAreHandedBack : {L : Lending} {S G O M : Type 0} → Means L S G O → (M → ℕ → M → Type 0) → Type 0
 FilesAreHandedBack {L} {S} {G} {O} {M} m tells =

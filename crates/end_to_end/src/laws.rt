@@ -65,7 +65,7 @@ pub fn looks_are_served<M: Moments, C: Conns, S: Secrets, G: Gate, O: Observer>(
     written_places_are_read();
 }
 
-/// Let a push have left its file in a pool, as `pushes_are_served` says of one that ended Pushed. Behind the step of
+/// Let a push have left its file in a pool, as `pushes_are_served` says of one that ended Pushed. After the step of
 /// its close each GET of that name and digest, of any client on any worker's connection, is answered with the file: the
 /// body of the reply is exactly that. It is answered out of memory instead, or with what was stored last under the
 /// digest since then, if that was another content with the same digest.
