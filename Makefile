@@ -71,7 +71,7 @@ help:
 	@echo 'make fuzz     100,000 generated streams of requests through `blobd once`, beside a model (make test runs 2,000)'
 	@echo 'make soak     three minutes of clients that cut connections, race one another and are refused memory'
 	@echo 'make long     ten million requests, a million small blobs, ten thousand power cuts and a hundred kills, with the memory that `blobd serve` has then;'
-	@echo '              pushes of 1 GiB over restarts of the server; servers that clients fill, for a minute each'
+	@echo '              pushes of 1 GiB over restarts of the server; servers that clients fill, for a minute each; thousands of damaged sectors'
 	@echo 'make large    blobs of more than 1 GiB, each in one request or one push, stored and pulled: two minutes'
 	@echo 'make figures  speed and memory of `blobd once` and of the service alone, as ratios in one run'
 	@echo 'make bench    the same of `blobd serve` and `blobd push` over loopback, and a picture; then with a data directory, in this'
@@ -178,6 +178,7 @@ long: $(EVERY)
 	@python3 tests/power_cuts.py $(EVERY) --cuts 10000 --seed 2
 	@python3 tests/serve_data.py $(EVERY) -k killed_at_random --kills 100 --seconds 0 --seed 2
 	@python3 tests/pushes.py $(EVERY) -k pushes_over_restarts --mib 1024
+	@python3 tests/serve_journal.py $(EVERY) -k many_damaged_gates --damaged 4099
 	@python3 tests/fills.py $(EVERY) --seconds 60 --times 100
 
 large: $(EVERY)

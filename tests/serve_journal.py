@@ -12,9 +12,9 @@ import shutil
 
 from harness.data import (
     CONTENTS, HEAD_LEN, HOLDS, LARGEST_IN_JOURNAL, REFUSED, SECTOR, SIZE, bodies, content_of, flipped, gates_of,
-    is_refused, overwritten, serving, serving_the_rest, tree,
+    is_refused, overwritten, serving, serving_the_rest, tree, variables,
 )
-from harness.pushers import NAME, has_all
+from harness.pushers import NAME, has_all, post
 from harness.running import pull, run
 from harness.suite import OPTIONS, case, check, equal, main
 from harness.wire import sha256
@@ -28,6 +28,8 @@ AT_THE_END = (
     "blobd: " + MISSING + "it is damaged or cut there, or a copy that was made while a server wrote; "
     "a start goes on without what it can't mend\n"
 )
+# how many sectors one start mends, and what it says if there are more
+MOST_MENDED, HALF_MENDED = 4_096, "journal: more sectors are damaged than one start mends; start again"
 MENDED = "blobd: damage in {0}: journal: 1 damaged sector mended, so that what stands there is read again\n"
 
 
@@ -193,6 +195,33 @@ def damaged_sectors(folder):
 
 
 @case()
+def many_damaged_gates(folder):
+    """A start brings back what each damaged gate hides. One that has mended as many as it may is refused, as is a
+    compaction, and the next one goes on, so that nothing is lost."""
+    good, bad = os.path.join(folder, "good"), os.path.join(folder, "bad")
+    contents = [str(number).encode() for number in range(OPTIONS.damaged)]
+    with serving(good) as server, server.client() as client:
+        for content in contents:
+            post(client, content)
+    journal = bytearray(content_of(f"{good}/journal"))
+    gates = gates_of(journal)
+    equal("a batch for each", len(gates), len(contents))
+    for at in gates:
+        journal[at] ^= 2
+    overwritten(f"{good}/journal", 0, journal)
+    for words in (["serve", "127.0.0.1:0"], ["compact", bad]):
+        shutil.copytree(good, bad)
+        for _ in range((len(gates) - 1) // MOST_MENDED):
+            printed, status, told = run(*words, env=variables(bad, BLOBD_STRICT="0"))
+            check(f"{words[0]} is refused", (printed, status) == REFUSED and HALF_MENDED in told, (printed, told))
+        if words[0] == "compact":
+            equal("a compaction", run(*words)[1], 0)
+        with serving_the_rest(bad) as server:
+            has_all(f"what is there after {words[0]}", server, contents)
+        shutil.rmtree(bad)
+
+
+@case()
 def compacted_with_a_damaged_gate(folder):
     """Of the last gate nobody can tell whether it was being opened. So a compaction mends it first, as a start does:
     the records behind it stay, and their bodies."""
@@ -250,4 +279,4 @@ def torn_gate(folder):
 
 
 if __name__ == "__main__":
-    main(__doc__, seed=(1, "of the damage"))
+    main(__doc__, seed=(1, "of the damage"), damaged=(9, "gates, where many are"))
