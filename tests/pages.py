@@ -28,6 +28,11 @@ WORD = re.compile(r"\w+")
 WRONG_BODIES = "docs/WRONG-BODIES.md"
 KNOWN_MISTAKE = re.compile(r"^\| ((?:`\w+`(?:, )?)+) \| `(\w+)` \|", re.MULTILINE)
 
+# The page of the crates, and its rows that list all that a crate stands on; and the lines of the file that says so.
+ARCHITECTURE = "docs/ARCHITECTURE.md"
+CRATE_ROW = re.compile(r"^\| `(\w+)` \|.*\| (`\w+`(?:, `\w+`)*) \|$", re.MULTILINE)
+CRATE = re.compile(r"^(\w+)(?: [\w=+]+)*: (.+)$", re.MULTILINE)
+
 # The page on using the crates, and what it shows of the two programs that do.
 USING = "docs/USING.md"
 SHOWN = re.compile(r"crates/embed_\w+/(src/\w+\.rt|specs/(?!Lib\.)\w+\.antt)")
@@ -180,6 +185,17 @@ def miscounted(_):
     found += [f"README.md: {path} with {count} lines isn't so" for path, count in sorted(rows - real)]
     said = f"{len(real)} files, {sum(count for _, count in real)} lines in all"
     return found if said in " ".join(readme.split()) else [*found, f"README.md: they are {said}"]
+
+
+def misplaced(_):
+    """Crates of which the page of the crates says that they stand on others than they do."""
+    stand = {crate: set(below.split()) for crate, below in CRATE.findall(text_of("crates.txt"))}
+    rows = [(crate, set(NAMED.findall(below))) for crate, below in CRATE_ROW.findall(text_of(ARCHITECTURE))]
+    return [
+        f"{ARCHITECTURE}: {crate}: {', '.join(sorted(below ^ stand.get(crate, set())))}"
+        for crate, below in rows
+        if below != stand.get(crate)
+    ]
 
 
 def unshown(paths):

@@ -289,6 +289,7 @@ CHECKS = [
     ("each row of the promises names functions and clauses that are there", pages.unpromised),
     ("no row of the promises is longer than two lines", pages.long_rows),
     ("each test that a page names is there", pages.untested),
+    ("the page of the crates says what each stands on", pages.misplaced),
     ("README lists the files that the headline rests on, with their lines", pages.miscounted),
     ("make watches every crate that the program is built of", unwatched),
     ("the program's crates are the program's alone", outside_the_program),
