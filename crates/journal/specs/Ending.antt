@@ -27,18 +27,22 @@ pub record IsSound (file : List ℕ) (end count : ℕ) : Type 0 where
   pub zeros : take sector (drop end file) ≡ replicate sector 0
   pub no_later : HasNoLater file end count
 
+-- a gate that was left open has this sector. One that a crash tore may begin with any byte.
+abbrev pub left_gate : List ℕ
+left_gate = replicate sector 2
+
 -- a file that was only begun, or a gate that was being opened
 abbrev pub IsDoubtful : List ℕ → ℕ → ℕ → Type 0
 IsDoubtful file end count =
     ((length file < end + sector) × (count ≡ 0))
-    ⊎ ((slice_index file end ≢ 1) × (slice_index file end ≢ 2) × HasNoLater file end count
+    ⊎ ((slice_index file end ≢ 1) × (take sector (drop end file) ≢ left_gate) × HasNoLater file end count
     × (take sector (drop end file) ≢ replicate sector 0))
 
 -- no gate stands behind batches; the gate is open, or was left open; or a later batch counts
 abbrev pub IsBroken : List ℕ → ℕ → ℕ → Type 0
 IsBroken file end count =
     ((length file < end + sector) × (count ≢ 0))
-    ⊎ ((slice_index file end ≡ 1) ⊎ ((slice_index file end ≡ 2) ⊎ HasLater file end count))
+    ⊎ ((slice_index file end ≡ 1) ⊎ ((take sector (drop end file) ≡ left_gate) ⊎ HasLater file end count))
 
 abbrev pub EndsAs : Ending → List ℕ → ℕ → ℕ → Type 0
 EndsAs Sound file end count = IsSound file end count

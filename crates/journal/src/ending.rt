@@ -8,7 +8,7 @@ ghost use Rattle.journal.specs.Reads.{OnlyReads};
 ghost use Rattle.journal.specs.Ending.{EndsAs, IsLater, HasLater, HasNoLater};
 
 use crate::Error;
-use crate::gate::{LEFT_OPEN, OPEN, SHUT_GATE};
+use crate::gate::{LEFT_GATE, OPEN, SHUT_GATE};
 use crate::head::number_in;
 use crate::line::is_same;
 use crate::replay::{read, read_head};
@@ -114,7 +114,7 @@ pub fn see_end<D: Disk>(disk: &mut D, len: usize, end: usize, count: usize) -> R
     }
     let mut gate = [0; SECTOR];
     read(disk, len, end, &mut gate)?;
-    if gate[0] == OPEN || gate[0] == LEFT_OPEN {
+    if gate[0] == OPEN || is_same(&gate, &LEFT_GATE) {
         return Ok(Ending::Broken);
     }
     if has_later(disk, len, end, count)? {

@@ -1,10 +1,11 @@
 //! The two halves of a commit: what is new is on the disk behind a shut gate, and then the gate is opened.
 ghost use Rattle.std.specs.Prelude.{◌≡◌, ◌+◌, ◌%◌, ◌<◌, ◌≤◌, ◌^◌};
-ghost use Rattle.std.specs.Prelude.{ℕ, List, length, slice_index, IfOk, OnOk, IsTrue};
+ghost use Rattle.std.specs.Prelude.{ℕ, List, length, take, drop, slice_index, IfOk, OnOk, IsTrue};
 ghost use Rattle.sqlite_disk.specs.Disk.{Torn, Follows, Only, CountsFault};
 ghost use Rattle.journal.specs.Format.{Kept, Rests, records, whole, sector, head};
 ghost use Rattle.journal.specs.Gate.{IsStaged};
 ghost use Rattle.journal.specs.Mending.{copy_at, head_at};
+ghost use Rattle.journal.specs.Ending.{left_gate};
 
 use crate::head::{HEAD_LEN, head_of};
 use crate::sectors::{SECTOR, sector_of, whole, write_batch, write_sectors};
@@ -14,14 +15,13 @@ use std::io;
 /// A gate is open if its sector begins with this byte.
 pub const OPEN: u8 = 1;
 
-/// A gate that stood open without its batch begins with this byte once it is shut. It is shut as any other, and goes on
-/// to tell of the batches that are lost.
-pub const LEFT_OPEN: u8 = 2;
-
 /// A gate that was never opened.
 pub static SHUT_GATE: [u8; SECTOR] = [0; SECTOR];
 
-static LEFT_GATE: [u8; SECTOR] = [LEFT_OPEN; SECTOR];
+/// A gate that stood open without its batch, once it is shut. It is shut as any other, and goes on to tell of the
+/// batches that are lost. All of its sector says so: the sector of a gate that was being opened may begin with any byte
+/// after a crash.
+pub static LEFT_GATE: [u8; SECTOR] = [2; SECTOR];
 
 const STEP: usize = 0x1_0000;
 
@@ -48,7 +48,8 @@ pub fn leave_gate<D: Disk>(disk: &mut D, gate: usize) -> io::Result<()>
     requires usable { IsTrue (D.Disk.is_usable disk.old) }
     requires begins { gate % 4096 ≡ 0 }
     ensures there { OnOk result (gate + sector ≤ length (D.Disk.seen disk.new)) }
-    ensures left { OnOk result (slice_index (D.Disk.seen disk.new) gate ≡ 2) }
+    ensures shut { OnOk result (slice_index (D.Disk.seen disk.new) gate ≡ 2) }
+    ensures left { OnOk result (take sector (drop gate (D.Disk.seen disk.new)) ≡ left_gate) }
     ensures usable { IsTrue (D.Disk.is_usable disk.new) }
     ensures clean { IsTrue (D.Disk.is_clean disk.new) → IsTrue (D.Disk.is_clean disk.old) }
     ensures faults { CountsFault result (D.Disk.faults disk.old) (D.Disk.faults disk.new) }
