@@ -1,6 +1,6 @@
 -- A text that is gathered before it is written.
 use Rattle.std.proofs.Common.{arith, rules}
-use Rattle.std.proofs.Common.{◌≡◌, ℕ, Bool, false, List, [], ◌++◌, append_assoc}
+use Rattle.std.proofs.Common.{◌≡◌, ℕ, Bool, true, false, List, [], ◌++◌, append_assoc}
 use Rattle.std.specs.Prelude.{Result, Ok, Err, ⊤, is_ok, is_err, OnErr}
 use Rattle.std.proofs.lemmas.List.{append-nil}
 use Rattle.http_wire.specs.declared.writing.WriteFault.{WriteFault}
@@ -29,3 +29,8 @@ given_err (Err e) h p = p
 pub gathered_none : (start : SinkState) (held : Held) → held ≡ record { bytes = []; failed = false }
     → Gathered start start held []
 gathered_none start held e = search (rules, arith, takes_none)
+
+-- once a write has failed, whatever is put behind goes nowhere
+pub gathered_failed : (start now : SinkState) (held : Held) (text more : List ℕ) → held.failed ≡ true
+    → Gathered start now held text → Gathered start now held (text ++ more)
+gathered_failed start now held text more f h = search (rules, arith, append_assoc)

@@ -15,3 +15,4 @@ pub mod ResponseBody
 pub mod Query
 pub mod Unambiguous
 pub mod Inner
+pub mod Excerpts

@@ -29,6 +29,11 @@ pub record SinkState : Type 0 where
   pub failed_writes : ℕ
   pub flushed : Bool
 
+-- of an excerpt of a file: the bytes that the file was given there, and those that came as it was read
+pub record ExcerptState : Type 0 where
+  pub told : List ℕ
+  pub came : List ℕ
+
 -- of a transcript: its bytes, in order, and whether the last piece of it was empty
 pub record TranscriptState : Type 0 where
   pub bytes : List ℕ

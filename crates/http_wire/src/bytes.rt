@@ -7,6 +7,7 @@ ghost use Rattle.http_wire.specs.Reading.{ReadTells};
 ghost use Rattle.http_wire.specs.Writing.{WriteTells};
 
 use crate::calls::Calls;
+use crate::excerpt::Excerpt;
 use crate::transcript::Transcript;
 use std::fmt;
 use std::io::{Read, Write};
@@ -61,6 +62,20 @@ pub trait ByteSink {
         ensures bytes { WriteAppends (state self.old).contents (state self.new).contents
             result buf.now }
         ensures told { WriteTells (state self.old) (state self.new) result buf.now }
+        ensures counted { CountsUp (state self.old).writes (state self.new).writes }
+        ensures ok { OnOk result ((state self.new).failed_writes ≡ (state self.old).failed_writes) }
+        ensures err { OnErr result
+            (CountsUp (state self.old).failed_writes (state self.new).failed_writes) };
+
+    /// Writes what comes next of a file, as `write` does: some of the bytes that the file was given there, at least one
+    /// if there is one. Whoever writes what came of it may tell it for that; `Failed` also says that nothing came, or
+    /// that only known bytes are taken here.
+    fn write_excerpt(&mut self, excerpt: &Excerpt<'_>) -> Result<usize, Failed>
+        ensures bound { IfOk result (λ n. n ≤ length excerpt.now.told) }
+        ensures some { IfOk result (λ n. 0 < length excerpt.now.told → 0 < n) }
+        ensures bytes { WriteAppends (state self.old).contents (state self.new).contents
+            result excerpt.now.told }
+        ensures told { WriteTells (state self.old) (state self.new) result excerpt.now.told }
         ensures counted { CountsUp (state self.old).writes (state self.new).writes }
         ensures ok { OnOk result ((state self.new).failed_writes ≡ (state self.old).failed_writes) }
         ensures err { OnErr result
@@ -197,6 +212,14 @@ impl<W: Write> ByteSink for ToWrite<W> {
                 Err(Failed)
             }
         }
+    }
+
+    // What such a writer holds may be known, and what a file gives isn't.
+    fn write_excerpt(&mut self, _excerpt: &Excerpt<'_>) -> Result<usize, Failed> {
+        self.writes = self.writes.and_one();
+        self.unflushed = self.unflushed.and_one();
+        self.failed_writes = self.failed_writes.and_one();
+        Err(Failed)
     }
 
     fn flush(&mut self) -> Result<(), Failed> {

@@ -13,8 +13,10 @@ mod bytes;
 mod calls;
 mod chunked;
 mod elements;
+mod excerpt;
 mod fault;
 mod fields;
+mod given;
 mod head;
 mod history;
 mod input;
@@ -29,10 +31,12 @@ mod writing;
 
 pub use body::{BodyBuffer, BodyEnd, Framing, framing_of, length_of, read_body, read_bytes};
 pub use bytes::{ByteSink, ByteSource, Failed, FromRead, ToWrite};
+pub use excerpt::Excerpt;
 pub use fault::{Bad, BodyFault, InputFault, WireFault};
 pub use fields::{
     Occurrence, field_among, field_named, first_among, is_same_word, keeps_connection, lists_close,
 };
+pub use given::Given;
 pub use head::{Grammar, HeadRead, MAX_FIELDS, MAX_HEAD, Verdict, read_head};
 pub use history::History;
 pub use input::{CAPACITY, Input, ReadBuffer};
@@ -46,4 +50,4 @@ pub use responses::{
 };
 pub use status::Status;
 pub use transcript::Transcript;
-pub use writing::{Gather, WriteFault, then_flush, then_write, write_all};
+pub use writing::{Gather, WriteFault, then_flush, then_write, write_all, write_excerpt};

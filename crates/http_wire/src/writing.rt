@@ -7,6 +7,7 @@ ghost use Rattle.http_wire.specs.HeadText.{closing_fields, length_field, print_f
 ghost use Rattle.http_wire.specs.Inner.Gathering.{Gathered, Puts};
 
 use crate::bytes::ByteSink;
+use crate::excerpt::Excerpt;
 use arrayvec::ArrayVec;
 use itoa::Buffer;
 use std::fmt;
@@ -52,6 +53,25 @@ impl Gather {
         let done = write_all(writer, self.bytes.as_slice());
         self.bytes.clear();
         self.failed = then_write(done, writer, text).is_err();
+    }
+
+    /// Puts an excerpt of a file behind the bytes that it has, which are written first.
+    pub fn put_excerpt<W: ByteSink>(&mut self, writer: &mut W, excerpt: Excerpt<'_>)
+        ensures { Puts (W.state writer.old) self.old (W.state writer.new) self.new excerpt.entry.told }
+    {
+        if self.failed {
+            return;
+        }
+        let done = write_all(writer, self.bytes.as_slice());
+        self.bytes.clear();
+        self.failed = then_write_excerpt(done, writer, excerpt).is_err();
+    }
+
+    /// Whether a write has failed: what is put from then on goes nowhere.
+    pub fn has_failed(&self) -> bool
+        ensures { result ≡ self.now.failed }
+    {
+        self.failed
     }
 
     /// Puts the decimal digits of a number.
@@ -141,6 +161,34 @@ pub fn write_all<W: ByteSink>(writer: &mut W, bytes: &[u8]) -> Result<(), WriteF
         }
     }
     Ok(())
+}
+
+/// Writes all of an excerpt of a file. What can't be read of it can't be written.
+pub fn write_excerpt<W: ByteSink>(writer: &mut W, excerpt: Excerpt<'_>) -> Result<(), WriteFault>
+    ensures { Wrote (W.state writer.old) (W.state writer.new) excerpt.entry.told result }
+{
+    let mut rest = excerpt;
+    while rest.len() > 0 {
+        match writer.write_excerpt(&rest) {
+            Ok(count) => rest = rest.after(count),
+            Err(_) => return Err(WriteFault),
+        }
+    }
+    Ok(())
+}
+
+/// Writes an excerpt of a file too, unless a write has failed.
+fn then_write_excerpt<W: ByteSink>(
+    done: Result<(), WriteFault>,
+    writer: &mut W,
+    excerpt: Excerpt<'_>,
+) -> Result<(), WriteFault>
+    ensures { (start : SinkState) (text : List ℕ)
+        → Wrote start (W.state writer.old) text done
+        → Wrote start (W.state writer.new) (text ++ excerpt.entry.told) result }
+{
+    done?;
+    write_excerpt(writer, excerpt)
 }
 
 /// Writes these bytes too, unless a write has failed.
