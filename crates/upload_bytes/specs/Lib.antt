@@ -9,3 +9,6 @@ pub mod Blobs
 pub mod Uploads
 pub mod SpoolFiles
 pub mod Spools
+pub mod FileReading
+pub mod Stretches
+pub mod Before

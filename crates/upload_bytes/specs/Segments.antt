@@ -1,5 +1,5 @@
 -- What segments stand for: bodies one after another.
-use Rattle.std.specs.Prelude.{ℕ, List, [], ◌∷◌, ◌++◌}
+use Rattle.std.specs.Prelude.{◌≡◌, ℕ, List, [], ◌∷◌, ◌++◌, Option, length, IfSome}
 use Rattle.std.specs.List.{concat}
 
 -- the parts with one more, but for an empty one
@@ -15,3 +15,8 @@ pub record Parts : Type 0 where
 -- all their bytes
 abbrev pub whole : Parts → List ℕ
 whole parts = concat parts.settled ++ parts.tail
+
+-- so many bytes are there in all, and the stretches have those that stay as they are
+pub record IsCounted (total : ℕ) (stretches : Option (List (List ℕ))) (parts : Parts) : Type 0 where
+  pub counted : total ≡ length (whole parts)
+  pub same : IfSome stretches (λ stretches. concat stretches ≡ concat parts.settled)

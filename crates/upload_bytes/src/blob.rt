@@ -1,16 +1,22 @@
 //! A stored blob: a small one by itself, a larger one in parts that can be shared.
-ghost use Rattle.std.specs.Prelude.{◌≡◌, ◌+◌, ◌<◌, ◌^◌, ◌++◌, [], ℕ, List, length, box_value, IfOk};
+ghost use Rattle.std.specs.Prelude.{◌≡◌, ◌+◌, ◌<◌, ◌^◌, ◌++◌, [], ℕ, List, length, box_value, IfOk, IfSome};
 ghost use Rattle.upload_bytes.specs.Segments.{whole};
-ghost use Rattle.upload_bytes.specs.Blobs.{body_in};
+ghost use Rattle.std.specs.List.{concat};
+ghost use Rattle.upload_bytes.specs.Blobs.{before_last, body_in};
+ghost use Rattle.upload_bytes.specs.Body.{bytes_in};
 
+use crate::before::Before;
 use crate::body::{Body, Pieces};
+use crate::filed::FilePart;
 use crate::granted::Granted;
-use crate::part::{Part, share_into};
+use crate::part::Part;
 use crate::received::Received;
 use crate::room::Grant;
 use crate::segments::{Segments, size_of};
 use crate::shared::BlobBytes;
 use crate::shares::Shares;
+use crate::spool::SyncedFile;
+use crate::stretch::{Stretch, share_parts_into};
 use std::alloc::{AllocError, Global};
 use std::marker::Model;
 use upload_names::Bytes;
@@ -19,24 +25,23 @@ use upload_names::Bytes;
 /// good part of what the blob takes in all.
 const SMALL_SIZE: usize = 4_096;
 
-/// What a session received, and the last body behind it: its parts, and what came behind them.
+/// What a session received, and the last body behind it: its parts, and what came behind them; or its file alone.
 #[derive(Drop)]
 pub struct Several {
-    pub before: Segments,
+    pub before: Before,
     pub parts: Vec<Part>,
-    pub last: Part,
+    pub last: Stretch,
 }
 
 impl Several {
-    /// A last body alone, in a place where nothing has come before it yet.
+    /// A last body alone, in a place where nothing has come before it yet. Of one that has a file the file is kept.
     pub fn of(alloc: Global, body: Body) -> Result<Box<Several>, AllocError>
         ensures { IfOk result (λ place. body_in (box_value place) ≡ body) }
     {
-        let Pieces { parts, last } = body.into_pieces();
-        let Ok(last) = Part::of(alloc, last) else {
-            return Err(AllocError);
-        };
-        let before = Segments::new(alloc);
+        let len = body.len();
+        let (pieces, file) = body.into_filed();
+        let (parts, last) = stretch_of(alloc, pieces, file, len)?;
+        let before = Before::Here(Segments::new(alloc));
         match Box::new(
             alloc,
             Several {
@@ -51,11 +56,45 @@ impl Several {
     }
 }
 
+/// The parts of a body, and what came behind them; or no part and its file, if one has all its bytes. Those are let go
+/// then.
+fn stretch_of(
+    alloc: Global,
+    pieces: Pieces,
+    file: Option<SyncedFile>,
+    len: usize,
+) -> Result<(Vec<Part>, Stretch), AllocError>
+    requires len { len ≡ length (bytes_in pieces) }
+    requires filed { IfSome file (λ file. file ≡ bytes_in pieces) }
+    ensures { IfOk result (λ parts. concat parts.0.items ++ parts.1 ≡ bytes_in pieces) }
+{
+    if let Some(file) = file {
+        let stretch = filed(alloc, file, len as u64)?;
+        return Ok((Vec::new(alloc), stretch));
+    }
+    let Pieces { parts, last } = pieces;
+    match Part::of(alloc, last) {
+        Ok(last) => Ok((parts, Stretch::here(last))),
+        Err(_) => Err(AllocError),
+    }
+}
+
+/// All bytes of a file, which are so many.
+fn filed(alloc: Global, file: SyncedFile, len: u64) -> Result<Stretch, AllocError>
+    requires { len ≡ length file }
+    ensures { IfOk result (λ stretch. stretch ≡ file) }
+{
+    match FilePart::of(alloc, file, len) {
+        Ok(part) => Ok(Stretch::filed(part)),
+        Err(_) => Err(AllocError),
+    }
+}
+
 /// What a blob is kept in.
 #[derive(Drop)]
 pub enum Shape {
     Small(Granted),
-    One(Part),
+    One(Stretch),
     Several(Box<Several>),
 }
 
@@ -106,56 +145,56 @@ impl Blob {
     {
         segments.shrink();
         if place.parts.is_empty() {
-            if place.last.as_slice().is_empty() {
+            if place.last.len() == 0 {
                 segments.hand_over(&mut place.last);
             }
             if segments.total() == 0 {
                 let several = Box::into_inner(place);
-                return Blob::of_part(alloc, several.last);
+                return Blob::of_stretch(alloc, several.last);
             }
         }
-        place.before = segments;
+        place.before = segments.into_before();
         Blob {
             shape: Shape::Several(place),
         }
     }
 
-    /// A blob of one part, whose bytes it takes out if they are few and have no other owner. It takes no memory.
-    fn of_part(alloc: Global, mut part: Part) -> Blob
-        ensures { result ≡ part }
+    /// A blob of one stretch, whose bytes it takes out if they are few, in memory, and have no other owner. It takes no
+    /// memory.
+    fn of_stretch(alloc: Global, mut stretch: Stretch) -> Blob
+        requires { length stretch < 2 ^ 64 }
+        ensures { result ≡ stretch }
     {
-        let size = part.as_slice().len();
+        let size = stretch.len();
         let mut bytes = Granted::none(alloc, Grant::unlimited());
-        if size <= SMALL_SIZE && part.trade(&mut bytes) {
+        if size <= SMALL_SIZE as u64 && stretch.trade(&mut bytes) {
             return Blob {
                 shape: Shape::Small(bytes),
             };
         }
         Blob {
-            shape: Shape::One(part),
+            shape: Shape::One(stretch),
         }
     }
 
-    /// A blob of one body, which is moved and not copied.
+    /// A blob of one body, which is moved and not copied. Of one that has a file the file is kept.
     pub fn of(alloc: Global, body: Body) -> Result<Blob, AllocError>
         ensures { IfOk result (λ blob. blob ≡ body) }
     {
         let size = body.len();
-        let Pieces { parts, last } = body.into_pieces();
-        if parts.is_empty() && size <= SMALL_SIZE {
+        let (Pieces { parts, last }, file) = body.into_filed();
+        if parts.is_empty() && size <= SMALL_SIZE && file.is_none() {
             return Ok(Blob {
                 shape: Shape::Small(last),
             });
         }
-        let Ok(last) = Part::of(alloc, last) else {
-            return Err(AllocError);
-        };
+        let (parts, last) = stretch_of(alloc, Pieces { parts, last }, file, size)?;
         if parts.is_empty() {
             return Ok(Blob {
                 shape: Shape::One(last),
             });
         }
-        let before = Segments::new(alloc);
+        let before = Before::Here(Segments::new(alloc));
         match Box::new(
             alloc,
             Several {
@@ -177,7 +216,7 @@ impl Blob {
     {
         match &self.shape {
             Shape::Small(bytes) => bytes.len() as u64,
-            Shape::One(last) => last.as_slice().len() as u64,
+            Shape::One(last) => last.len(),
             Shape::Several(several) => len_of(several),
         }
     }
@@ -186,11 +225,11 @@ impl Blob {
     pub fn keep_in(&self, shares: &mut Shares) {
         match &self.shape {
             Shape::Small(_) => {}
-            Shape::One(last) => shares.add_one(last),
+            Shape::One(last) => last.keep_in(shares),
             Shape::Several(several) => {
-                shares.add(several.before.settled());
+                several.before.keep_in(shares);
                 shares.add(several.parts.as_slice());
-                shares.add_one(&several.last);
+                several.last.keep_in(shares);
             }
         }
     }
@@ -205,47 +244,38 @@ impl Blob {
                 let copy = Vec::from_slice(alloc, bytes.as_slice())?;
                 BlobBytes::of(alloc, Bytes::of(copy))
             }
-            Shape::One(last) => share_part(alloc, last),
+            Shape::One(last) => share_stretch(alloc, last),
             Shape::Several(several) => share_parts(alloc, several),
         }
     }
 }
 
-/// The bytes of one part, which is shared.
-fn share_part(alloc: Global, last: &Part) -> Result<BlobBytes, AllocError>
+/// The bytes of one stretch, which is shared.
+fn share_stretch(alloc: Global, last: &Stretch) -> Result<BlobBytes, AllocError>
     ensures { IfOk result (λ bytes. bytes ≡ last.now) }
 {
-    let part = last.share()?;
-    let mut parts = Vec::with_capacity(alloc, 1)?;
-    parts.push(part)?;
-    Ok(BlobBytes::of_parts(parts))
+    let stretch = last.share()?;
+    let mut stretches = Vec::with_capacity(alloc, 1)?;
+    stretches.push(stretch)?;
+    Ok(BlobBytes::of_stretches(stretches))
 }
 
 /// How many bytes these are.
 fn len_of(several: &Several) -> u64
-    requires { length (whole several.now.before) + length (body_in several.now) < 2 ^ 64 }
-    ensures { result ≡ length (whole several.now.before) + length (body_in several.now) }
+    requires { length (before_last several.now) + length (body_in several.now) < 2 ^ 64 }
+    ensures { result ≡ length (before_last several.now) + length (body_in several.now) }
 {
-    several.before.total()
-        + size_of(several.parts.as_slice())
-        + several.last.as_slice().len() as u64
+    several.before.len() + size_of(several.parts.as_slice()) + several.last.len()
 }
 
 /// The bytes of segments and a last body: all are shared but the last segment, which is copied.
 fn share_parts(alloc: Global, several: &Several) -> Result<BlobBytes, AllocError>
-    ensures { IfOk result (λ bytes. bytes ≡ whole several.now.before ++ body_in several.now) }
+    ensures { IfOk result (λ bytes. bytes ≡ before_last several.now ++ body_in several.now) }
 {
-    let settled = several.before.settled();
     let behind = several.parts.as_slice();
-    let count = settled.len().saturating_add(behind.len()).saturating_add(2);
-    let mut parts = Vec::with_capacity(alloc, count)?;
-    share_into(&mut parts, settled)?;
-    let tail = Vec::from_slice(alloc, several.before.tail())?;
-    let Ok(tail) = Part::of(alloc, Granted::unlimited(tail)) else {
-        return Err(AllocError);
-    };
-    parts.push(tail)?;
-    share_into(&mut parts, behind)?;
-    parts.push(several.last.share()?)?;
-    Ok(BlobBytes::of_parts(parts))
+    let mut stretches = several.before.share(alloc)?;
+    stretches.reserve(behind.len().saturating_add(1))?;
+    share_parts_into(&mut stretches, behind)?;
+    stretches.push(several.last.share()?)?;
+    Ok(BlobBytes::of_stretches(stretches))
 }

@@ -280,6 +280,16 @@ impl Body {
         })
     }
 
+    /// Its pieces, which are moved and not copied, and the file that has all its bytes, if a shelf gave one a number.
+    /// Another file goes here.
+    pub fn into_filed(self) -> (Pieces, Option<SyncedFile>)
+        ensures pieces { bytes_in result.0 ≡ self }
+        ensures filed { IfSome result.1 (λ file. file ≡ self) }
+    {
+        let Body { pieces, filed, .. } = self;
+        (pieces, numbered(filed))
+    }
+
     /// Its pieces, which are moved and not copied.
     pub fn into_pieces(self) -> Pieces
         ensures { bytes_in result ≡ self }
@@ -287,6 +297,17 @@ impl Body {
         let Body { pieces, .. } = self;
         pieces
     }
+}
+
+/// The file, if there is one that a shelf gave a number.
+fn numbered(filed: Option<Result<SyncedFile, io::Error>>) -> Option<SyncedFile>
+    ensures { (bytes : List ℕ) → IfSome filed (λ filed. IfOk filed (λ file. file ≡ bytes))
+        → IfSome result (λ file. file ≡ bytes) }
+{
+    let Some(Ok(file)) = filed else {
+        return None;
+    };
+    if file.has_number() { Some(file) } else { None }
 }
 
 /// A hash in a place of its own. Without memory for that it is dropped: who needs it hashes again.

@@ -79,7 +79,7 @@ impl Front {
 }
 
 /// Whether these are parts of the same bytes, one by one.
-fn are_same(parts: &[Part], others: &[Part]) -> bool
+pub(crate) fn are_same(parts: &[Part], others: &[Part]) -> bool
     ensures { IsTrue result → parts.now ≡ others.now }
 {
     if parts.len() != others.len() {

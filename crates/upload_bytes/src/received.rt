@@ -7,12 +7,12 @@ ghost use Rattle.std.specs.List.{concat};
 ghost use Rattle.upload_bytes.specs.Running.{HoldsBy};
 ghost use Rattle.upload_bytes.specs.Segments.{whole};
 
+use crate::before::share_segments;
 use crate::body::Body;
 use crate::digested::Digested;
 use crate::front::Front;
-use crate::granted::Granted;
 use crate::hashing::{HashPlace, Running};
-use crate::part::{Part, share_all, share_into};
+use crate::part::share_all;
 use crate::prefix_hash::PrefixHash;
 use crate::segments::Segments;
 use crate::shared::BlobBytes;
@@ -205,15 +205,7 @@ impl Received {
     pub fn share(&self, alloc: Global) -> Result<BlobBytes, AllocError>
         ensures { IfOk result (λ bytes. bytes ≡ self.now) }
     {
-        let settled = self.segments.settled();
-        let mut parts = Vec::with_capacity(alloc, settled.len().saturating_add(1))?;
-        share_into(&mut parts, settled)?;
-        let tail = Vec::from_slice(alloc, self.segments.tail())?;
-        let Ok(tail) = Part::of(alloc, Granted::unlimited(tail)) else {
-            return Err(AllocError);
-        };
-        parts.push(tail)?;
-        Ok(BlobBytes::of_parts(parts))
+        Ok(BlobBytes::of_stretches(share_segments(alloc, &self.segments)?))
     }
 
     /// Has shares of its parts kept, of those that stay as they are.

@@ -1,15 +1,20 @@
 //! Bodies one after another. Each is kept as it came, moved in and not copied, but that small ones are joined
 //! into one segment, so that a session which is fed a byte at a time takes little more than its bytes.
 ghost use Rattle.std.specs.Prelude.{◌≡◌, ◌+◌, ◌-◌, ◌<◌, ◌≤◌, ◌^◌, ◌++◌, ◌∷◌, [], ℕ, List, length, take, min};
-ghost use Rattle.std.specs.Prelude.{vec_len, vec_capacity, IfOk, OnOk, OnErr};
+ghost use Rattle.std.specs.Prelude.{vec_len, vec_capacity, IfSome, OnOk, OnErr};
 ghost use Rattle.std.specs.List.{concat};
 ghost use Rattle.upload_bytes.specs.Body.{bytes_in};
+ghost use Rattle.upload_bytes.specs.Before.{bytes_before};
 ghost use Rattle.upload_bytes.specs.Segments.{with_part, whole};
 
+use crate::before::{Before, KeptSegments};
 use crate::body::{Body, Pieces};
+use crate::filed::FilePart;
 use crate::granted::Granted;
 use crate::part::Part;
 use crate::room::Grant;
+use crate::spool::SyncedFile;
+use crate::stretch::{Stretch, share_parts_into};
 use std::alloc::{AllocError, Global};
 use std::marker::Model;
 use std::mem;
@@ -25,20 +30,23 @@ pub struct Segments {
     settled: Vec<Part>,
     /// The last segment, which small bodies are joined to. It is empty if there is none.
     tail: Granted,
+    /// The bytes of these once more, for a blob: those of a body that came with a file are in that file, and others in
+    /// their parts, which are shared. None if there was no memory for that.
+    stretches: Option<Vec<Stretch>>,
     /// How many bytes there are in all.
     total: u64,
 }
 
 impl Model for Segments {
-    ghost use Rattle.std.specs.Prelude.{◌≡◌, length};
-    ghost use Rattle.upload_bytes.specs.Segments.{Parts, whole};
+    ghost use Rattle.std.specs.Prelude.{option_map};
+    ghost use Rattle.upload_bytes.specs.Segments.{Parts, IsCounted};
 
     ghost Value = { Parts };
 
     ghost view = { λ a. record { settled = a.settled.items; tail = a.tail } };
 
-    ghost invariant = { λ a.
-        a.total ≡ length (whole (record { settled = a.settled.items; tail = a.tail })) };
+    ghost invariant = { λ a. IsCounted a.total (option_map (λ stretches. stretches.items) a.stretches)
+        (record { settled = a.settled.items; tail = a.tail }) };
 }
 
 impl Segments {
@@ -50,6 +58,7 @@ impl Segments {
             alloc,
             settled: Vec::new(alloc),
             tail: Granted::none(alloc, Grant::unlimited()),
+            stretches: Some(Vec::new(alloc)),
             total: 0,
         }
     }
@@ -77,7 +86,7 @@ impl Segments {
 
     /// Moves the last segment to an empty part behind the segments. It takes no memory, and if that part has other
     /// owners it does nothing.
-    pub fn hand_over(&mut self, last: &mut Part)
+    pub fn hand_over(&mut self, last: &mut Stretch)
         requires { last.old ≡ [] }
         ensures { whole self.new ++ last.new ≡ whole self.old }
     {
@@ -87,11 +96,14 @@ impl Segments {
         }
     }
 
-    /// Gives the spare room of the list of segments and of the last one back.
+    /// Gives the spare room of the lists of segments and of the last one back.
     pub fn shrink(&mut self)
         ensures { self.new ≡ self.old }
     {
         self.settled.shrink_to_fit();
+        if let Some(stretches) = &mut self.stretches {
+            stretches.shrink_to_fit();
+        }
         self.tail.shrink();
     }
 
@@ -105,53 +117,167 @@ impl Segments {
         ensures err { OnErr result (self.new ≡ self.old) }
     {
         let size = body.len();
-        let Pieces { parts, last } = body.into_pieces();
-        if parts.is_empty() && size <= JOINED_SIZE && self.tail.len() <= JOINED_SIZE - size {
-            self.tail.join(last)?;
-        } else {
-            self.settled.reserve(parts.len().saturating_add(2))?;
-            roll_over(
-                self.alloc,
-                &mut self.settled,
-                &mut self.tail,
-                Pieces { parts, last },
-            )?;
+        let (pieces, file) = body.into_filed();
+        if !pieces.parts.is_empty() || size > JOINED_SIZE {
+            return self.settle(pieces, file, size);
         }
+        if self.tail.len() > JOINED_SIZE.saturating_sub(size) {
+            return self.roll_over(pieces, size);
+        }
+        self.join(pieces, size)
+    }
+
+    /// Joins a small body to the last segment. An `Err` changes nothing.
+    fn join(&mut self, body: Pieces, size: usize) -> Result<(), AllocError>
+        requires alone { body.parts.items ≡ [] }
+        requires size { size ≡ length (bytes_in body) }
+        requires fits { length (whole self.old) + size < 2 ^ 64 }
+        ensures more { OnOk result (whole self.new ≡ whole self.old ++ bytes_in body) }
+        ensures same { OnOk result (self.new.settled ≡ self.old.settled) }
+        ensures err { OnErr result (self.new ≡ self.old) }
+    {
+        let Pieces { last, .. } = body;
+        self.tail.join(last)?;
         self.total += size as u64;
         Ok(())
     }
+
+    /// Settles the last segment and has a small body be the last one. An `Err` changes nothing.
+    fn roll_over(&mut self, body: Pieces, size: usize) -> Result<(), AllocError>
+        requires alone { body.parts.items ≡ [] }
+        requires size { size ≡ length (bytes_in body) }
+        requires fits { length (whole self.old) + size < 2 ^ 64 }
+        ensures more { OnOk result (whole self.new ≡ whole self.old ++ bytes_in body) }
+        ensures front { OnOk result
+            (take (length self.old.settled) self.new.settled ≡ self.old.settled) }
+        ensures longer { OnOk result (length self.old.settled ≤ length self.new.settled) }
+        ensures err { OnErr result (self.new ≡ self.old) }
+    {
+        let Pieces { last, .. } = body;
+        self.settled.reserve(1)?;
+        let had = self.settled.len();
+        settle_tail(self.alloc, &mut self.settled, &mut self.tail)?;
+        let stretches = mem::replace(&mut self.stretches, None);
+        self.stretches = with_parts(stretches, had, self.settled.as_slice());
+        self.tail = last;
+        self.total += size as u64;
+        Ok(())
+    }
+
+    /// Settles the last segment and puts a body behind it. An `Err` changes nothing.
+    fn settle(
+        &mut self,
+        body: Pieces,
+        file: Option<SyncedFile>,
+        size: usize,
+    ) -> Result<(), AllocError>
+        requires size { size ≡ length (bytes_in body) }
+        requires filed { IfSome file (λ file. file ≡ bytes_in body) }
+        requires fits { length (whole self.old) + size < 2 ^ 64 }
+        ensures more { OnOk result (whole self.new ≡ whole self.old ++ bytes_in body) }
+        ensures front { OnOk result
+            (take (length self.old.settled) self.new.settled ≡ self.old.settled) }
+        ensures longer { OnOk result (length self.old.settled ≤ length self.new.settled) }
+        ensures err { OnErr result (self.new ≡ self.old) }
+    {
+        let Pieces { parts, last } = body;
+        self.settled.reserve(parts.len().saturating_add(2))?;
+        let Ok(last) = Part::of(self.alloc, last) else {
+            return Err(AllocError);
+        };
+        let had = self.settled.len();
+        settle_tail(self.alloc, &mut self.settled, &mut self.tail)?;
+        let stretches = mem::replace(&mut self.stretches, None);
+        let stretches = with_parts(stretches, had, self.settled.as_slice());
+        let file = filed(self.alloc, file, size as u64);
+        self.stretches = settle_body(&mut self.settled, parts, last, stretches, file);
+        self.total += size as u64;
+        Ok(())
+    }
+
+    /// What a blob keeps of these. It takes no memory.
+    pub fn into_before(self) -> Before
+        ensures { bytes_before result ≡ whole self }
+    {
+        let Segments {
+            alloc,
+            settled,
+            tail,
+            stretches,
+            total,
+        } = self;
+        match stretches {
+            Some(stretches) => Before::Kept(KeptSegments::of(stretches, tail, total)),
+            None => Before::Here(Segments {
+                alloc,
+                settled,
+                tail,
+                stretches: None,
+                total,
+            }),
+        }
+    }
 }
 
-/// Settles the last segment and moves a body in behind it: as the last segment if it is small. An `Err` changes
-/// nothing.
-fn roll_over(
-    alloc: Global,
-    settled: &mut Vec<Part>,
-    tail: &mut Granted,
-    body: Pieces,
-) -> Result<(), AllocError>
-    requires { vec_len settled.old + vec_len body.parts + 2 ≤ vec_capacity settled.old }
-    ensures more { OnOk result (concat settled.new.items ++ tail.new
-        ≡ concat settled.old.items ++ tail.old ++ bytes_in body) }
-    ensures front { OnOk result
-        (take (length settled.old.items) settled.new.items ≡ settled.old.items) }
-    ensures longer { OnOk result (length settled.old.items ≤ length settled.new.items) }
-    ensures err { OnErr result
-        ((settled.new.items ≡ settled.old.items) × (tail.new ≡ tail.old)) }
+/// All bytes of a file, which are so many. None if there is no memory.
+fn filed(alloc: Global, file: Option<SyncedFile>, len: u64) -> Option<Stretch>
+    requires { IfSome file (λ file. len ≡ length file) }
+    ensures { (bytes : List ℕ) → IfSome file (λ file. file ≡ bytes)
+        → IfSome result (λ stretch. stretch ≡ bytes) }
 {
-    let Pieces { parts, last } = body;
-    if parts.is_empty() && last.len() <= JOINED_SIZE {
-        settle_tail(alloc, settled, tail)?;
-        *tail = last;
-        return Ok(());
+    match FilePart::of(alloc, file?, len) {
+        Ok(part) => Some(Stretch::filed(part)),
+        Err(_) => None,
     }
-    let Ok(last) = Part::of(alloc, last) else {
-        return Err(AllocError);
-    };
-    settle_tail(alloc, settled, tail)?;
+}
+
+/// Stretches of the first so many parts, and of those behind them, which are shared. None if there is no memory.
+fn with_parts(stretches: Option<Vec<Stretch>>, had: usize, parts: &[Part]) -> Option<Vec<Stretch>>
+    requires { had ≤ length parts.now }
+    ensures { IfSome stretches (λ before. concat before.items ≡ concat (take had parts.now))
+        → IfSome result (λ all. concat all.items ≡ concat parts.now) }
+{
+    let mut stretches = stretches?;
+    match share_parts_into(&mut stretches, &parts[had..]) {
+        Ok(()) => Some(stretches),
+        Err(_) => None,
+    }
+}
+
+/// Stretches and one more behind them. None if there is no memory.
+fn with_stretch(stretches: Option<Vec<Stretch>>, stretch: Stretch) -> Option<Vec<Stretch>>
+    ensures { (before : List ℕ) → IfSome stretches (λ before'. concat before'.items ≡ before)
+        → IfSome result (λ all. concat all.items ≡ before ++ stretch) }
+{
+    let mut stretches = stretches?;
+    match stretches.push(stretch) {
+        Ok(()) => Some(stretches),
+        Err(_) => None,
+    }
+}
+
+/// Puts a body behind parts, and behind the stretches of these: its file, if it has one, else its own parts, which are
+/// shared. Gives those stretches. None if there is no memory.
+fn settle_body(
+    settled: &mut Vec<Part>,
+    parts: Vec<Part>,
+    last: Part,
+    stretches: Option<Vec<Stretch>>,
+    file: Option<Stretch>,
+) -> Option<Vec<Stretch>>
+    requires { vec_len settled.old + vec_len parts + 1 ≤ vec_capacity settled.old }
+    ensures items { settled.new.items ≡ with_part (settled.old.items ++ parts.items) last }
+    ensures same { IfSome stretches (λ before. concat before.items ≡ concat settled.old.items)
+        → IfSome file (λ file. file ≡ concat parts.items ++ last)
+        → IfSome result (λ all. concat all.items ≡ concat settled.new.items) }
+{
+    let had = settled.len();
     settle_all(settled, parts);
     settle(settled, last);
-    Ok(())
+    match file {
+        Some(file) => with_stretch(stretches, file),
+        None => with_parts(stretches, had, settled.as_slice()),
+    }
 }
 
 /// Makes the last segment one that stays as it is. An `Err` changes nothing.

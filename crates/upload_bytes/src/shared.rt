@@ -4,14 +4,15 @@ ghost use Rattle.std.specs.List.{concat};
 
 use crate::granted::Granted;
 use crate::part::Part;
+use crate::stretch::Stretch;
 use std::alloc::{AllocError, Global};
 use std::marker::Model;
 use upload_names::Bytes;
 
-/// The bytes of a stored blob, seen as one list. It holds the parts that the blob is stored in, which it shares.
+/// The bytes of a stored blob, seen as one list. It holds the stretches that the blob is stored in, which it shares.
 #[derive(Drop)]
 pub struct BlobBytes {
-    parts: Vec<Part>,
+    stretches: Vec<Stretch>,
 }
 
 impl Model for BlobBytes {
@@ -20,15 +21,15 @@ impl Model for BlobBytes {
 
     ghost Value = { List ℕ };
 
-    ghost view = { λ a. concat a.parts.items };
+    ghost view = { λ a. concat a.stretches.items };
 }
 
 impl BlobBytes {
-    /// The bytes of these parts.
-    pub(crate) fn of_parts(parts: Vec<Part>) -> BlobBytes
-        ensures { result ≡ concat parts.items }
+    /// The bytes of these stretches.
+    pub(crate) fn of_stretches(stretches: Vec<Stretch>) -> BlobBytes
+        ensures { result ≡ concat stretches.items }
     {
-        BlobBytes { parts }
+        BlobBytes { stretches }
     }
 
     /// A text of one part.
@@ -38,15 +39,15 @@ impl BlobBytes {
         let Ok(part) = Part::of(alloc, Granted::unlimited(bytes.into_vec())) else {
             return Err(AllocError);
         };
-        let mut parts = Vec::new(alloc);
-        parts.push(part)?;
-        Ok(BlobBytes { parts })
+        let mut stretches = Vec::new(alloc);
+        stretches.push(Stretch::here(part))?;
+        Ok(BlobBytes { stretches })
     }
 
-    /// The parts, in their order.
-    pub fn parts(&self) -> &[Part]
+    /// The stretches, in their order.
+    pub fn stretches(&self) -> &[Stretch]
         ensures { concat result.now ≡ self.now }
     {
-        self.parts.as_slice()
+        self.stretches.as_slice()
     }
 }

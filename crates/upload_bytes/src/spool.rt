@@ -1,15 +1,19 @@
 //! Files that bodies are written into as they come, before they have a name of their own.
 ghost use Rattle.std.specs.Prelude.{◌≡◌, ◌++◌, [], IfOk, IfErr, IfSome, OnOk};
+ghost use Rattle.upload_bytes.specs.SpoolFiles.{given_to};
 
-use http_wire::Transcript;
+use http_wire::Given;
 use std::alloc::{AllocError, Global};
 use std::fs::{self, OpenOptions};
-use std::io::{self, Write};
+use std::io::{self, ErrorKind, Write};
 use std::marker::Model;
 use std::os::fd::AsRawFd;
 use std::os::unix::fs::OpenOptionsExt;
 use std::sync::Arc;
 use std::sync::atomic::{AtomicU64, Ordering};
+
+/// How many folders a shelf has: the low byte of its number says in which of them a file is.
+const FOLDERS: u64 = 256;
 
 /// Where files are made.
 #[derive(Drop)]
@@ -40,29 +44,48 @@ enum Place {
         rt: HostRuntime,
         path: String,
         file: fs::File,
-        written: Transcript,
+        given: Given,
     },
     Memory(Vec<u8>),
 }
 
-/// A file of a spool, seen as the bytes that it was given. It is removed as it goes, unless it was moved elsewhere.
+/// A file of a spool, seen as the bytes that it was given. It is removed as it goes.
 pub struct SpoolFile {
     place: Place,
+    /// Where it was made, and its number there.
+    spool: Spool,
+    made: u64,
+}
+
+/// Where a file is that is written no more.
+#[derive(Drop)]
+pub enum Kept {
+    Disk {
+        rt: HostRuntime,
+        spool: Spool,
+        made: u64,
+        /// One more than the number that it was given by a shelf, or 0.
+        named: AtomicU64,
+    },
+    Memory(Vec<u8>),
 }
 
 /// A file of a spool, all of whose bytes are on the disk: every crash leaves just these, once it has a name that a
-/// crash leaves.
-#[derive(Drop)]
+/// crash leaves. It isn't open. It is removed as it goes, unless a shelf gave it a number.
 pub struct SyncedFile {
-    file: SpoolFile,
+    kept: Kept,
+    given: Given,
 }
 
 impl Model for SyncedFile {
     ghost use Rattle.std.specs.Prelude.{List, ℕ};
+    ghost use Rattle.upload_bytes.specs.SpoolFiles.{IsKept};
 
     ghost Value = { List ℕ };
 
-    ghost view = { λ a. a.file };
+    ghost view = { λ a. a.given };
+
+    ghost invariant = { λ a. IsKept a.kept a.given };
 }
 
 impl Model for SpoolFile {
@@ -76,9 +99,36 @@ impl Model for SpoolFile {
 
 impl Drop for SpoolFile {
     fn drop(self) {
-        let SpoolFile { place } = self;
+        let SpoolFile {
+            place,
+            spool: _spool,
+            made: _made,
+        } = self;
         if let Place::Disk { rt, path, .. } = place {
             let _ = fs::remove_file(&rt, path.as_str());
+        }
+    }
+}
+
+impl Drop for SyncedFile {
+    fn drop(self) {
+        let SyncedFile {
+            kept,
+            given: _given,
+        } = self;
+        if let Kept::Disk {
+            rt,
+            spool,
+            made,
+            named,
+            ..
+        } = kept
+        {
+            if named.load(Ordering::SeqCst) == 0 {
+                if let Ok(path) = spool.path_of(rt.alloc(), made) {
+                    let _ = fs::remove_file(&rt, path.as_str());
+                }
+            }
         }
     }
 }
@@ -113,21 +163,39 @@ impl Spool {
     pub fn make(&self, alloc: Global) -> io::Result<SpoolFile>
         ensures { IfOk result (λ file. file ≡ []) }
     {
+        let spool = self.share()?;
+        let made = self.shared.next.fetch_add(1, Ordering::SeqCst);
         let place = match &self.shared.folder {
-            Folder::Disk { rt, path } => {
-                let number = self.shared.next.fetch_add(1, Ordering::SeqCst);
-                let path = format!(in alloc; "{path}/{number}")?;
+            Folder::Disk { rt, .. } => {
+                let path = self.path_of(alloc, made)?;
                 let file = new_file(rt, path.as_str())?;
                 Place::Disk {
                     rt: *rt,
                     path,
                     file,
-                    written: Transcript::none(),
+                    given: Given::none(),
                 }
             }
             Folder::Memory => Place::Memory(Vec::new(alloc)),
         };
-        Ok(SpoolFile { place })
+        Ok(SpoolFile { place, spool, made })
+    }
+
+    /// Where the file is that it made under this number.
+    fn path_of(&self, alloc: Global, made: u64) -> io::Result<String> {
+        match &self.shared.folder {
+            Folder::Disk { path, .. } => Ok(format!(in alloc; "{path}/{made}")?),
+            Folder::Memory => Err(ErrorKind::NotFound.into()),
+        }
+    }
+
+    /// Where a file is to which the shelf of this spool gave a number.
+    fn path_under(&self, alloc: Global, number: u64) -> io::Result<String> {
+        let low = number % FOLDERS;
+        match &self.shared.folder {
+            Folder::Disk { path, .. } => { Ok(format!(in alloc; "{path}/../{low:02x}/{number}")?) }
+            Folder::Memory => Err(ErrorKind::NotFound.into()),
+        }
     }
 }
 
@@ -137,9 +205,9 @@ impl SpoolFile {
         ensures { OnOk result (self.new ≡ self.old ++ bytes.now) }
     {
         match &mut self.place {
-            Place::Disk { file, written, .. } => {
+            Place::Disk { file, given, .. } => {
                 file.write_all(bytes)?;
-                *written = written.and(bytes);
+                *given = given.and(bytes);
             }
             Place::Memory(held) => held.extend_from_slice(bytes)?,
         }
@@ -154,23 +222,80 @@ impl SpoolFile {
         }
     }
 
-    /// Puts all that it was given on the disk.
+    /// Puts all that it was given on the disk, and closes it.
     pub fn sync_all(self) -> io::Result<SyncedFile>
         ensures { IfOk result (λ synced. synced ≡ self) }
     {
         if let Place::Disk { file, .. } = &self.place {
             file.sync_all()?;
         }
-        Ok(SyncedFile { file: self })
+        let SpoolFile { place, spool, made } = self;
+        Ok(closed(place, spool, made))
+    }
+}
+
+/// A file that is on the disk, closed.
+fn closed(place: Place, spool: Spool, made: u64) -> SyncedFile
+    ensures { result ≡ given_to place }
+{
+    match place {
+        Place::Disk {
+            rt,
+            path: _path,
+            file: _file,
+            given,
+        } => SyncedFile {
+            kept: Kept::Disk {
+                rt,
+                spool,
+                made,
+                named: AtomicU64::new(0),
+            },
+            given,
+        },
+        Place::Memory(bytes) => {
+            drop(spool);
+            let given = Given::none().and(bytes.as_slice());
+            SyncedFile {
+                kept: Kept::Memory(bytes),
+                given,
+            }
+        }
     }
 }
 
 impl SyncedFile {
     /// Where it is. None says that it is in memory.
-    pub fn path(&self) -> Option<&str> {
-        match &self.file.place {
-            Place::Disk { path, .. } => Some(path.as_str()),
-            Place::Memory(_) => None,
+    pub fn path(&self, alloc: Global) -> io::Result<Option<String>> {
+        match &self.kept {
+            Kept::Disk {
+                spool,
+                made,
+                named,
+                ..
+            } => {
+                let path = match named.load(Ordering::SeqCst).checked_sub(1) {
+                    None => spool.path_of(alloc, *made)?,
+                    Some(number) => spool.path_under(alloc, number)?,
+                };
+                Ok(Some(path))
+            }
+            Kept::Memory(_) => Ok(None),
+        }
+    }
+
+    /// Whether a shelf gave it a number.
+    pub fn has_number(&self) -> bool {
+        match &self.kept {
+            Kept::Disk { named, .. } => named.load(Ordering::SeqCst) != 0,
+            Kept::Memory(_) => false,
+        }
+    }
+
+    /// Notes that the shelf of its spool gave it this number: from then on it is there, and stays as this goes.
+    pub fn note_number(&self, number: u64) {
+        if let Kept::Disk { named, .. } = &self.kept {
+            named.store(number.saturating_add(1), Ordering::SeqCst);
         }
     }
 
@@ -178,9 +303,27 @@ impl SyncedFile {
     pub fn in_memory(&self) -> Option<&[u8]>
         ensures { IfSome result (λ bytes. bytes.now ≡ self.now) }
     {
-        match &self.file.place {
-            Place::Disk { .. } => None,
-            Place::Memory(bytes) => Some(bytes.as_slice()),
+        match &self.kept {
+            Kept::Disk { .. } => None,
+            Kept::Memory(bytes) => Some(bytes.as_slice()),
+        }
+    }
+
+    /// What it was given, for contracts.
+    pub(crate) fn given(&self) -> &Given
+        ensures { result.now ≡ self.now }
+    {
+        &self.given
+    }
+
+    /// The file, open to be read.
+    pub(crate) fn open(&self, alloc: Global) -> io::Result<fs::File> {
+        let Kept::Disk { rt, .. } = &self.kept else {
+            return Err(ErrorKind::NotFound.into());
+        };
+        match self.path(alloc)? {
+            Some(path) => fs::File::open(rt, path.as_str()),
+            None => Err(ErrorKind::NotFound.into()),
         }
     }
 }

@@ -10,5 +10,5 @@ loop-part-preserved c =
     concat-take_next parts i c.part-item.result
     (omega (arith, c.loop-part-test.true, c.loop-part.auto.part-index-end)) in
     let none : get_or parts i c.part-item.result ≡ [] =
-    sym c.part-item.is ∙ sym c.as_slice.ensures ∙ c.is_same.ensures c.if-not-is_same.false in
+    sym c.part-item.is ∙ c.is_none.ensures c.if-not-is_none.false in
     next ∙ (λ k. c.loop-part.invariant k ++ none k)

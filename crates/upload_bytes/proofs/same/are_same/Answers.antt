@@ -8,12 +8,12 @@ pub loop-part-preserved : goal.loop-part-preserved
 loop-part-preserved c =
     let parts : List (List ℕ) = c.args.parts.now in
     let i : ℕ = c.loop-part.part-index in
-    let rest : List ℕ = c.take.new.piece.now ++ concat c.take.new.behind.now in
+    let rest : List ℕ = c.take_part.new.piece.now ++ concat c.take_part.new.behind.now in
     let next =
     concat-take_next parts i c.part-item.result
     (omega (arith, c.loop-part-test.true, c.loop-part.auto.part-index-end)) in
     c.loop-part.invariant
-    ∙ ap (λ xs. concat (take i parts) ++ xs) (c.take.ensures c.if-not-take.false)
-    ∙ sym (append_assoc (concat (take i parts)) c.as_slice.result.now rest)
+    ∙ ap (λ xs. concat (take i parts) ++ xs) (c.take_part.ensures c.if-not-take_part.false)
+    ∙ sym (append_assoc (concat (take i parts)) c.part-item.result rest)
     ∙ ap (λ xs. xs ++ rest)
-    (ap (λ xs. concat (take i parts) ++ xs) (c.as_slice.ensures ∙ c.part-item.is) ∙ sym next)
+    (ap (λ xs. concat (take i parts) ++ xs) (c.part-item.is) ∙ sym next)

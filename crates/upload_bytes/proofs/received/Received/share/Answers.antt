@@ -1,6 +1,0 @@
-use Rattle.std.proofs.Common.{arith, rules}
-use Rattle.upload_bytes.proofs.Parts.{concat-push}
-use Rattle.upload_bytes.proofs.received.Received.share.Goals as goal
-
-pub returns : goal.returns
-returns c = search (rules, arith, concat-push)
