@@ -11,7 +11,7 @@ use crate::request::Style;
 use http_wire::{ByteSink, Gather, Status, WriteFault};
 use upload_names::{BlobDigest, RepoName, UploadRef};
 use upload_service::{Answer, Form, Refusal};
-use upload_texts::{ErrorCode, put_parts, refusal_code, refusal_status};
+use upload_texts::{ErrorCode, put_stretches, refusal_code, refusal_status};
 
 /// The methods that a form of path takes.
 fn methods(form: Form) -> &'static str
@@ -218,7 +218,7 @@ fn put_body<W: ByteSink>(head: &mut Gather, writer: &mut W, answer: &Answer)
         Answer::Blob {
             bytes: Some(bytes),
             ..
-        } => put_parts(head, writer, bytes.parts()),
+        } => put_stretches(head, writer, bytes.stretches()),
         Answer::Misplaced { .. } => {
             head.put(writer, ErrorCode::BlobUploadInvalid.body().as_bytes())
         }
