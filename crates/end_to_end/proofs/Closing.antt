@@ -19,7 +19,7 @@ use Rattle.http_wire.specs.HeadText.{status_number}
 use Rattle.upload_texts.specs.Errors.{refusal_status}
 use Rattle.upload_client.specs.Heard.{reply_heard}
 use Rattle.upload_client.specs.declared.heard.Heard.{Heard}
-use Rattle.upload_intake.specs.Log.{Step}
+use Rattle.upload_keeper.specs.Log.{Step}
 use Rattle.upload_push.specs.Promise.{IsStored}
 use Rattle.upload_push.specs.Runs.{IsHeardOf}
 use Rattle.upload_push.specs.Slices.{Push, Attempt, LastIsAnswered, HeardStatus, IsClose, IsSound}

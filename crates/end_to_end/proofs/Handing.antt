@@ -15,7 +15,7 @@ use Rattle.upload_service.specs.declared.answer.Answer.{Answer}
 use Rattle.upload_service.specs.declared.answer.Answer.TheVariants.{Blob, NoMemory}
 use Rattle.upload_service.specs.declared.ask.Ask.TheVariants.{Has}
 use Rattle.upload_wire.specs.ReplyText.{reply_body}
-use Rattle.upload_intake.specs.Log.{Step, exchanges_of}
+use Rattle.upload_keeper.specs.Log.{Step, exchanges_of}
 use Rattle.upload_intake.specs.Pools.ServedPool.{Given, Left, IsServedPool}
 use Rattle.upload_intake.specs.Pools.Working.{Lending, Means, Lent}
 use Rattle.upload_push.specs.Slices.{Push}

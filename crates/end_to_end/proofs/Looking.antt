@@ -11,7 +11,7 @@ use Rattle.upload_service.specs.declared.ask.Ask.{Ask}
 use Rattle.upload_service.specs.declared.ask.Ask.TheVariants.{Has}
 use Rattle.upload_service.specs.declared.answer.Answer.{Answer}
 use Rattle.upload_client.specs.declared.heard.Heard.{Heard}
-use Rattle.upload_intake.specs.Log.{Step, exchanges_of}
+use Rattle.upload_keeper.specs.Log.{Step, exchanges_of}
 use Rattle.upload_intake.specs.Pools.ServedPool.{Given, Left, HasPart, IsServedPool, asked_and_answered, of_seat}
 use Rattle.upload_intake.specs.Pools.ServedPool.{read_and_replied}
 use Rattle.upload_intake.specs.Pools.Working.{Lending, Means, Lent, Talk, all_answered, answered_on}

@@ -7,7 +7,7 @@ use Rattle.std.proofs.lemmas.Bool.{eq-eqb, eqb-false}
 use Rattle.upload_service.specs.Machine.{AreLawful, IsLawful}
 use Rattle.upload_service.specs.declared.ask.Ask.{Ask}
 use Rattle.upload_client.specs.declared.heard.Heard.{Heard}
-use Rattle.upload_intake.specs.Log.{Step}
+use Rattle.upload_keeper.specs.Log.{Step}
 use Rattle.upload_intake.specs.Pools.ServedPool.{Given, Left, IsServedPool, asked_and_answered, read_and_replied}
 use Rattle.upload_intake.specs.Pools.Working.{Lending, Means, Lent, all_answered, answered_on, unanswered_on}
 use Rattle.upload_push.specs.Slices.{Attempt, IsLawfulPush, IsSound, Push, log_of}

@@ -13,7 +13,7 @@ use Rattle.upload_service.specs.declared.ask.Ask.{Ask}
 use Rattle.upload_service.specs.declared.ask.Ask.TheVariants as asks
 use Rattle.upload_service.specs.declared.ask.Extent.TheVariants.{Absent, Given}
 use Rattle.upload_client.specs.declared.heard.Heard.{Heard}
-use Rattle.upload_intake.specs.Log.{Step}
+use Rattle.upload_keeper.specs.Log.{Step}
 use Rattle.upload_push.specs.Promise.{Avoids}
 use Rattle.upload_push.specs.Runs.{AskedInRun, IsHeardOf, IsRequestOf, IsHarmless, AreHarmless, IsQuietRun}
 use Rattle.upload_push.specs.Slices.{Push, Attempt, IsSoundAsk, Leads, heard_offset, heard_place, place_after}

@@ -15,8 +15,8 @@ use Rattle.upload_wire.specs.ConnectionRuns.{unanswered_last}
 use Rattle.upload_wire.specs.declared.connection.ConnEnd.{ConnEnd}
 use Rattle.upload_wire.specs.declared.connection.ConnEnd.TheVariants.{DeskGone}
 use Rattle.upload_client.specs.declared.heard.Heard.{Heard}
-use Rattle.upload_intake.specs.Log.{Step}
-use Rattle.upload_intake.specs.Seats.{SeatState}
+use Rattle.upload_keeper.specs.Log.{Step}
+use Rattle.upload_keeper.specs.Seats.{SeatState}
 use Rattle.upload_intake.specs.Pools.ServedPool.{of_seat, asked_and_answered, read_and_replied, asks}
 use Rattle.upload_intake.specs.Transcripts.{GivesUnused}
 use Rattle.upload_intake.specs.Pools.Working.{Lending, Means, Talk, Serves, IsLast, steps, answered_on, unanswered_on}

@@ -13,7 +13,7 @@ use Rattle.upload_service.specs.Run.{NeverFall, Run}
 use Rattle.upload_service.specs.Headline.{Headline}
 use Rattle.upload_service.specs.Session.{received}
 use Rattle.upload_service.proofs.Keeping.Tables.{contains-insert}
-use Rattle.upload_intake.specs.Log.{Step, exchanges_of}
+use Rattle.upload_keeper.specs.Log.{Step, exchanges_of}
 use Rattle.upload_intake.specs.Pools.ServedPool.{Given, Left, HasPart, IsServedPool, asked_and_answered, of_seat}
 use Rattle.upload_intake.specs.Pools.ServedPool.{asks, read_and_replied}
 use Rattle.upload_service.specs.declared.ask.Ask.{Ask}

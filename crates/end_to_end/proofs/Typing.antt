@@ -5,8 +5,8 @@ use Rattle.std.specs.List.{AllByRecursion}
 use Rattle.upload_names.specs.Digest.{Digest}
 use Rattle.upload_service.specs.declared.answer.Answer.{Answer}
 use Rattle.upload_service.specs.declared.answer.Answer.TheVariants.{Blob}
-use Rattle.upload_intake.specs.Log.{Step, exchanges_of}
-use Rattle.upload_intake.specs.Typed.{AllTyped}
+use Rattle.upload_keeper.specs.Log.{Step, exchanges_of}
+use Rattle.upload_keeper.specs.Typed.{AllTyped}
 use Rattle.upload_push.specs.World.{IsSecret}
 use Rattle.upload_wire.proofs.Lists.{all_mapped, all_weaker}
 use Rattle.wire_laws.specs.WrittenExchanges.{HasSize}

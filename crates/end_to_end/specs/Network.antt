@@ -14,7 +14,7 @@ use Rattle.upload_service.specs.declared.ask.Extent.TheVariants.{Absent}
 use Rattle.upload_wire.specs.Conversation.{WireExchange}
 use Rattle.upload_client.specs.TransportText.{WireState}
 use Rattle.upload_client.specs.declared.heard.Heard.{Heard}
-use Rattle.upload_intake.specs.Log.{Step, exchanges_of}
+use Rattle.upload_keeper.specs.Log.{Step, exchanges_of}
 use Rattle.upload_intake.specs.Pools.ServedPool.{Given, Left, IsServedPool}
 use Rattle.upload_intake.specs.Transcripts.{GivesUnused}
 use Rattle.upload_intake.specs.Pools.Working.{Lending, Means, Lent, Talk, answered_on, unanswered_on}

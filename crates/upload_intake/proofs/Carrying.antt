@@ -4,9 +4,9 @@ use Rattle.std.proofs.Common.{◌∙◌, inl, inr, ⊎_elim, append-nil, arith, 
 use Rattle.std.proofs.lemmas.List.{append_cancel_right}
 use Rattle.upload_service.specs.declared.ask.Ask.{Ask}
 use Rattle.upload_service.specs.declared.answer.Answer.{Answer}
-use Rattle.upload_intake.specs.Log.{TakenJob, Step, job_of, taken_by, jobs_of}
-use Rattle.upload_intake.specs.Seats.{SeatState, IsFresh}
-use Rattle.upload_intake.specs.Pools.Settled.{Heard}
+use Rattle.upload_keeper.specs.Log.{TakenJob, Step, job_of, taken_by, jobs_of}
+use Rattle.upload_keeper.specs.Seats.{SeatState, IsFresh}
+use Rattle.upload_keeper.specs.Settled.{Heard}
 use Rattle.upload_intake.specs.SeatConversations.{Adds, asks_of, answers_of, asks_in}
 use Rattle.upload_intake.specs.Pools.ServedPool.{of_seat, asked_and_answered, read_and_replied, asks, Carries}
 use Rattle.upload_wire.specs.Conversation.{WireExchange}

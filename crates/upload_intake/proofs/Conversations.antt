@@ -3,8 +3,8 @@ use Rattle.std.proofs.Common.{◌≡◌, ℕ, List, [], ◌∷◌, Option, Some,
 use Rattle.std.proofs.Common.{arith, rules}
 use Rattle.upload_service.specs.declared.ask.Ask.{Ask}
 use Rattle.upload_service.specs.declared.answer.Answer.{Answer}
-use Rattle.upload_intake.specs.declared.gone.Gone.{Gone}
-use Rattle.upload_intake.specs.Seats.{SeatState, Asks, IsSameSeat}
+use Rattle.upload_keeper.specs.declared.gone.Gone.{Gone}
+use Rattle.upload_keeper.specs.Seats.{SeatState, Asks, Hears, IsSameSeat}
 use Rattle.upload_intake.specs.SeatMoves.{AsksWithDrawn}
 use Rattle.upload_intake.specs.Desks.{seat_of, secrets_of}
 use Rattle.upload_intake.specs.Notices.{Watching}
@@ -31,6 +31,13 @@ module _ {D : Type 0} (step : Moves D) (Keeps : D → D → Type 0) (same : (d :
   pub kept_by : (max_body : ℕ) (old new : ConnectionState D) (end : ConnEnd)
       → IsConversation step max_body old new end → Keeps old.desk new.desk
   kept_by max_body old new end c = search (rules, arith, by_answers, by_end)
+
+-- what was heard of a request with a drawn secret
+pub hears_drawn : {S : Type 0} (draws : S → List ℕ → S → Type 0) (old new : SeatState × S) (ask : Ask) (secret : List ℕ)
+    (heard : Option Answer) → draws old.1 secret new.1 → Hears old.0 ask secret heard new.0
+    → AsksWithDrawn draws old ask heard new
+hears_drawn draws old new ask secret (Some answer) drawn h = (secret, drawn, h)
+hears_drawn draws old new ask secret None drawn h = (secret, h.0, drawn, h.1)
 
 -- a call of a seat leaves its lines and its number
 asks_same : (old : SeatState) (ask : Ask) (secret : List ℕ) (result : Result Answer Gone) (new : SeatState)

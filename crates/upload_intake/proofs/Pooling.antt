@@ -7,21 +7,21 @@ use Rattle.upload_intake.specs.declared.work.Leaving.{Leaving}
 use Rattle.upload_service.specs.Machine.{State}
 use Rattle.upload_intake.specs.declared.work.Station.{Station}
 use Rattle.upload_intake.specs.declared.work.WorkerEnd.{WorkerEnd}
-use Rattle.upload_intake.specs.Log.{Step, exchanges_of, last_moment}
-use Rattle.upload_intake.specs.Seats.{SeatState, IsFresh, IsSameSeat}
-use Rattle.upload_intake.specs.Pools.Served.{KeeperState, IsSameKeeper, IsServed, IsSeatOf, AreOfOneCall}
-use Rattle.upload_intake.specs.Pools.Settled.{IsSettled, IsSettledSeat}
+use Rattle.upload_keeper.specs.Log.{Step, exchanges_of, last_moment}
+use Rattle.upload_keeper.specs.Seats.{SeatState, IsFresh, IsSameSeat}
+use Rattle.upload_keeper.specs.Served.{KeeperState, IsSameKeeper, IsServed, IsSeatOf, AreOfOneCall}
+use Rattle.upload_keeper.specs.Settled.{IsSettled, IsSettledSeat}
 use Rattle.upload_intake.specs.Pools.Stations.{seats_of, workers_of, limits_of, Works, AllLeft, EachWorks}
-use Rattle.upload_intake.specs.Told.{Told, Grows}
+use Rattle.upload_keeper.specs.Told.{Told, Grows}
 use Rattle.upload_intake.specs.Pools.Working.{Lending, Means, Lent, IsWorked, all_answered, all_unanswered}
 use Rattle.upload_intake.specs.Pools.ServedPool.{HasPart, IsServedSince}
 use Rattle.upload_intake.specs.Pools.KeptPool.{IsKeptPool}
-use Rattle.upload_intake.specs.Safety.{KeptSince, changed}
+use Rattle.upload_keeper.specs.Safety.{KeptSince, changed}
 use Rattle.upload_service.specs.Run.{Exchange}
 use Rattle.upload_intake.proofs.Working.{adds_all}
 use Rattle.upload_intake.proofs.Carrying.{carries}
 use Rattle.std.proofs.lemmas.List.{length-map}
-use Rattle.upload_intake.proofs.Opening.{get_or-map}
+use Rattle.upload_keeper.proofs.Opening.{get_or-map}
 
 module _ {L : Lending} {S G O M : Type 0} (m : Means L S G O) (tells : M → ℕ → M → Type 0) where
   part : (max_body : ℕ) (seat : ℕ) (steps : List Step) (st : Station L.Conns S G O) (l : Leaving L.Conns S G O)

@@ -4,9 +4,9 @@ use Rattle.std.proofs.Common.{◌≡◌, ℕ, List, [], ◌∷◌, ◌++◌, Ok,
 use Rattle.std.proofs.Common.{append-nil, append_assoc, arith, rules}
 use Rattle.std.proofs.lemmas.List.{map-append}
 use Rattle.upload_service.specs.declared.ask.Ask.{Ask}
-use Rattle.upload_intake.specs.declared.gone.Gone.{Gone}
-use Rattle.upload_intake.specs.declared.gone.Gone.TheVariants.{NotSent, NoAnswer}
-use Rattle.upload_intake.specs.Seats.{SeatState, Asks}
+use Rattle.upload_keeper.specs.declared.gone.Gone.{Gone}
+use Rattle.upload_keeper.specs.declared.gone.Gone.TheVariants.{NotSent, NoAnswer}
+use Rattle.upload_keeper.specs.Seats.{SeatState, Asks}
 use Rattle.upload_intake.specs.SeatConversations.{Adds, SeatSteps}
 use Rattle.upload_intake.specs.SeatConversations.{ConversationsFillTheSeat}
 use Rattle.upload_wire.specs.ConnectionRuns.{answered_last, unanswered_last, answered, unanswered}

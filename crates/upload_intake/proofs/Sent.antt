@@ -6,86 +6,12 @@ use denote.Struct.Tuple.{TupleAt, field_at, type_at}
 use denote.Struct.Declared.{shape}
 use denote.Param.Send.{IsSend, sendable, struct_send, recorded_send}
 use Rattle.std.proofs.Crossing as crossing
-use Rattle.http_wire.proofs.history.History.TheLaws.TheKnot as history
-use Rattle.crossbeam_channel.proofs.channel.Receiver.TheSendSync as receiver
-use Rattle.upload_names.proofs.name.RepoName.TheSendSync as name
-use Rattle.upload_names.proofs.reference.UploadRef.TheSendSync as reference
-use Rattle.upload_names.proofs.digest.BlobDigest.TheSendSync as digest
-use Rattle.upload_bytes.specs.contracts.body.Body as body
-use Rattle.upload_bytes.specs.contracts.gone.Gone as gone
-use Rattle.upload_bytes.specs.contracts.spool.SyncedFile as file
-use Rattle.upload_service.specs.contracts.ask.GoneChunk as chunk
-use Rattle.upload_service.specs.contracts.ask.Request as request
-use Rattle.upload_service.specs.contracts.ask.Ask as ask
-use Rattle.upload_service.proofs.ask.Extent.TheSendSync as extent
 use Rattle.upload_wire.specs.contracts.connection.ConnectionServer as server
-use Rattle.upload_intake.specs.contracts.message.Message as message
-use Rattle.upload_intake.proofs.message.Wish.TheSendSync as wish
-use Rattle.upload_intake.proofs.message.WishReply.TheSendSync as wish_reply
-use Rattle.upload_intake.proofs.heard.Heard.TheSendSync as heard
-use Rattle.upload_intake.proofs.ends.SendEnd.TheSendSync as send_end
-use Rattle.upload_intake.proofs.ends.TakeEnd.TheSendSync as take_end
-use Rattle.upload_intake.specs.contracts.seat.Seat as seat
-use Rattle.upload_intake.specs.contracts.seat.SeatEnd as seat_end
 use Rattle.upload_intake.specs.contracts.work.Station as station
 use Rattle.upload_intake.specs.contracts.work.Leaving as leaving
 use Rattle.upload_intake.proofs.work.Worker.TheSendSync as worker
 use Rattle.upload_intake.proofs.work.WorkerEnd.TheSendSync as end
-
-gone_sent : IsSend gone.the_row
-gone_sent = search (crossing.crosses, history.crosses, sendable) depth 60 fits 20000
-
-chunk_sent : IsSend chunk.the_field.row
-chunk_sent =
-    search (gone_sent, name.the_send, reference.the_send, extent.the_field_send, sendable) depth 60 fits 20000
-
-file_sent : IsSend file.the_row
-file_sent = search (crossing.crosses, history.crosses, sendable) depth 60 fits 20000
-
-body_sent : IsSend body.the_row
-body_sent = search (file_sent, crossing.crosses, sendable) depth 60 fits 20000
-
-ask_sent : IsSend ask.the_field.row
-ask_sent =
-    search (
-      body_sent,
-      name.the_send,
-      digest.the_send,
-      reference.the_send,
-      extent.the_field_send,
-      crossing.crosses,
-      sendable,
-    ) depth 60 fits 20000
-
-request_sent : IsSend request.the_field.row
-request_sent = search (chunk_sent, ask_sent, sendable) depth 60 fits 20000
-
-message_sent : IsSend message.the_row
-message_sent = search (request_sent, wish.the_field_send, sendable) depth 60 fits 20000
-
-seat_sent : IsSend seat.the_row
-seat_sent =
-    search (
-      message_sent,
-      wish_reply.the_send,
-      heard.the_send,
-      send_end.the_field_send,
-      take_end.the_field_send,
-      receiver.the_send,
-      crossing.crosses,
-      sendable,
-    ) depth 60 fits 20000
-
-seat_end_sent : IsSend seat_end.the_row
-seat_end_sent =
-    search (
-      message_sent,
-      heard.the_send,
-      send_end.the_field_send,
-      take_end.the_field_send,
-      crossing.crosses,
-      sendable,
-    ) depth 60 fits 20000
+use Rattle.upload_keeper.proofs.Sent.{seat_sent, seat_end_sent}
 
 server_sent : IsSend server.the_row
 server_sent = search (crossing.crosses, sendable) depth 60 fits 20000

@@ -2,7 +2,7 @@
 use Rattle.std.proofs.Common.{◌≡◌, ℕ, List, [], ◌∷◌, ◌++◌, sym, ap, ◌∙◌, subst, ⊎_elim, arith, rules}
 use Rattle.std.specs.Prelude.{Some}
 use Rattle.std.specs.List.{AllByRecursion}
-use Rattle.upload_intake.specs.Seats.{SeatState}
+use Rattle.upload_keeper.specs.Seats.{SeatState}
 use Rattle.upload_intake.specs.Pools.Working.{Lending, Means, Talk, Serves, IsLast}
 use Rattle.upload_intake.specs.Transcripts.{GivesUnused, TellsAll, TranscriptsTellConnections}
 use Rattle.upload_intake.proofs.Working.{behind}

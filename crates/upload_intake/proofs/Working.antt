@@ -5,12 +5,12 @@ use Rattle.std.proofs.Common.{append_assoc, length-append, arith}
 use Rattle.std.proofs.lemmas.List.Elements.{filter-append}
 use Rattle.upload_service.specs.declared.ask.Ask.{Ask}
 use Rattle.upload_service.specs.declared.answer.Answer.{Answer}
-use Rattle.upload_intake.specs.Seats.{SeatState}
+use Rattle.upload_keeper.specs.Seats.{SeatState}
 use Rattle.upload_intake.specs.Watched.{GateAt, WatchesEach, WatchesLast}
 use Rattle.upload_intake.specs.Desks.{seat_of, secrets_of}
 use Rattle.upload_intake.specs.declared.desk.GatedDesk.{GatedDesk}
 use Rattle.upload_intake.specs.declared.work.WorkerEnd.{WorkerEnd}
-use Rattle.upload_intake.specs.Pools.Settled.{count_limit}
+use Rattle.upload_keeper.specs.Settled.{count_limit}
 use Rattle.upload_intake.specs.SeatConversations.{Adds}
 use Rattle.upload_intake.specs.Pools.Working.{Lending, Means, Lent, Behind, is_clean, is_gone, Serves, IsLast, Talk}
 use Rattle.upload_intake.specs.Pools.Working.{connection_given, connection_left, steps}

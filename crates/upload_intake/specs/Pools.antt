@@ -1,9 +1,4 @@
-pub mod Served
 pub mod ServedPool
 pub mod KeptPool
-pub mod Settled
-pub mod Settles
 pub mod Stations
 pub mod Working
-pub mod Keepings
-pub mod Restarts

@@ -2,8 +2,8 @@
 use Rattle.std.specs.Prelude.{◌≡◌, ℕ, ◌⊎◌, List, [], ◌++◌, map}
 use Rattle.upload_service.specs.declared.ask.Ask.{Ask}
 use Rattle.upload_service.specs.declared.answer.Answer.{Answer}
-use Rattle.upload_intake.specs.Log.{Job}
-use Rattle.upload_intake.specs.Seats.{SeatState}
+use Rattle.upload_keeper.specs.Log.{Job}
+use Rattle.upload_keeper.specs.Seats.{SeatState}
 use Rattle.upload_intake.specs.SeatMoves.{AsksWithDrawn}
 use Rattle.upload_wire.specs.Conversation.{Moves, WireExchange, ConnectionState, IsConversation}
 use Rattle.upload_wire.specs.ConnectionRuns.{answered, unanswered}

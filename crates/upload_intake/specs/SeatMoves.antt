@@ -2,8 +2,8 @@
 use Rattle.std.specs.Prelude.{ℕ, List, Option, Some, None, Ok, Err}
 use Rattle.upload_service.specs.declared.ask.Ask.{Ask}
 use Rattle.upload_service.specs.declared.answer.Answer.{Answer}
-use Rattle.upload_intake.specs.declared.gone.Gone.{Gone}
-use Rattle.upload_intake.specs.Seats.{SeatState, Asks}
+use Rattle.upload_keeper.specs.declared.gone.Gone.{Gone}
+use Rattle.upload_keeper.specs.Seats.{SeatState, Asks}
 
 -- one call of the seat with a drawn secret, over a seat with its secrets; the answer is none if the call ended Gone
 abbrev pub AsksWithDrawn : {S : Type 0} → (S → List ℕ → S → Type 0) → SeatState × S → Ask → Option Answer

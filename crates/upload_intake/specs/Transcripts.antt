@@ -1,7 +1,7 @@
 -- What the transcripts of a worker's connections tell.
 use Rattle.std.specs.Prelude.{◌≡◌, ℕ, List, [], Some}
 use Rattle.std.specs.List.{AllByRecursion}
-use Rattle.upload_intake.specs.Seats.{SeatState}
+use Rattle.upload_keeper.specs.Seats.{SeatState}
 use Rattle.upload_intake.specs.Pools.Working.{Lending, Means, Talk, connection_given, connection_left, Serves, steps}
 use Rattle.upload_wire.specs.Transcripts.{all_read, all_written}
 

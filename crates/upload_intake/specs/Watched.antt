@@ -4,7 +4,7 @@ use Rattle.upload_service.specs.declared.ask.Ask.{Ask}
 use Rattle.upload_service.specs.declared.answer.Answer.{Answer}
 use Rattle.upload_intake.specs.Notices.{Watching}
 use Rattle.upload_intake.specs.Notices.Notice.{Asking, Answered}
-use Rattle.upload_intake.specs.Pools.Settled.{count_limit}
+use Rattle.upload_keeper.specs.Settled.{count_limit}
 use Rattle.upload_wire.specs.Conversation.{WireExchange}
 
 -- the turn behind this one; the last stays

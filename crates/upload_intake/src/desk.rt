@@ -1,7 +1,7 @@
 //! A seat as a desk, which a connection asks.
 use crate::lent::{Gate, Secrets};
-use crate::seat::Seat;
 use std::sync::Wait;
+use upload_keeper::Seat;
 use upload_service::{Answer, Ask, GoneChunk};
 use upload_wire::{Desk, NotAsked};
 

@@ -1,6 +1,5 @@
 //! What follows from the contracts of the parts.
 ghost use Rattle.upload_intake.specs.Determined.{ServedOrdersAreDetermined};
-ghost use Rattle.upload_intake.specs.Pools.Restarts.{ToldIsKept};
 ghost use Rattle.upload_intake.specs.SeatConversations.{ConversationsFillTheSeat};
 ghost use Rattle.upload_intake.specs.Transcripts.{TranscriptsTellConnections};
 ghost use Rattle.upload_intake.specs.Pools.Working.{lending, means};
@@ -28,13 +27,4 @@ pub fn transcripts_tell_connections<C: Conns, S: Secrets, G: Gate, O: Observer>(
 /// what a worker's conversations asked and were answered is determined by that order, if its desk wasn't gone.
 pub fn served_orders_are_determined()
     ensures { ServedOrdersAreDetermined }
-{}
-
-/// From what is kept, a restart has each answer that may be heard, so each that anybody heard. A restart that serves
-/// what is kept again, in the same order, with the same secrets and at the same moments, gives the same answers, if
-/// memory isn't out. If the answer tells of a change, that change is among them. Otherwise the service gives it after
-/// the first of them. It was given at no moment after those that are promised, so a restart that begins after them
-/// never goes back.
-pub fn told_is_kept()
-    ensures { ToldIsKept }
 {}

@@ -1,4 +1,4 @@
-//! What a caller lends a pool: connections, secrets, a clock, and who is told of each request.
+//! What a caller lends a pool: connections, secrets, and who is told of each request. The clock is `Moments`.
 ghost use Rattle.std.specs.Prelude.{Option, ◌≡◌, ℕ, List, replicate, OnOk, OnErr};
 ghost use Rattle.upload_service.specs.Requests.{chunk_ask};
 ghost use Rattle.upload_intake.specs.Notices.{Notice};
@@ -7,7 +7,7 @@ ghost use Rattle.upload_intake.specs.Secrets.{secret_of};
 
 use http_wire::{ByteSink, ByteSource};
 use rand::Rng;
-use upload_service::{Answer, Ask, GoneChunk, Service};
+use upload_service::{Answer, Ask, GoneChunk};
 use upload_wire::NotAsked;
 
 /// The connections of one worker, one after the other.
@@ -131,22 +131,5 @@ impl<G: Rng> Secrets for DrawnSecrets<G> {
         secret[..8].copy_from_slice(&high);
         secret[8..].copy_from_slice(&low);
         secret
-    }
-}
-
-/// Where the moments come from at which requests are served. It may look at the service between them.
-pub trait Moments {
-    // Holds of the state before the clock is asked, the moment that it tells, and the state after.
-    ghost tells: { Self → ℕ → Self → Type 0 };
-
-    /// The moment, in seconds from a start of one's own. A keeper never goes back: if this falls, it stays at the
-    /// moment before.
-    fn now(&mut self) -> u64
-        ensures { tells self.old result self.new };
-
-    /// Each time that all requests which the keeper took are answered: the service is so then. Nobody is served before
-    /// this returns.
-    fn rests(&self, service: &Service) {
-        let _ = service;
     }
 }

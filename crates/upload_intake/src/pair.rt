@@ -4,13 +4,14 @@ ghost use Rattle.upload_service.specs.Machine.{IsLawful};
 ghost use Rattle.upload_intake.specs.Pools.Working.{ServedComeBack, lending, means};
 ghost use Rattle.upload_intake.specs.Pools.ServedPool.{IsServedPool};
 
-use crate::lent::{Conns, Gate, Moments, Secrets};
+use crate::lent::{Conns, Gate, Secrets};
 use crate::pool::{Pool, ServeFault};
 use crate::unkept::serve_workers;
 use crate::work::{Worker, WorkerEnd};
 use std::alloc::{AllocError, Global};
 use std::sync::Wait;
 use std::thread::Threads;
+use upload_keeper::Moments;
 use upload_service::Service;
 use upload_wire::Observer;
 

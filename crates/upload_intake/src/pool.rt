@@ -2,19 +2,15 @@
 ghost use Rattle.std.specs.Prelude.{◌≡◌, ◌<◌, ◌≤◌, [], true, All, IfOk, length, vec_len, vec_capacity};
 ghost use Rattle.std.specs.Thread.{IsSend, IsSync};
 ghost use Rattle.upload_service.specs.Machine.{IsLawful, AreLawful};
-ghost use Rattle.upload_intake.specs.Seats.{IsFresh};
-ghost use Rattle.upload_intake.specs.Pools.Served.{AreOfOneCall};
+ghost use Rattle.upload_keeper.specs.Seats.{IsFresh};
+ghost use Rattle.upload_keeper.specs.Served.{AreOfOneCall};
 ghost use Rattle.upload_intake.specs.Pools.Working.{ServedComeBack, lending, means};
 ghost use Rattle.upload_intake.specs.Pools.KeptPool.{IsKeptPool};
-ghost use Rattle.upload_intake.specs.Safety.{Leads, LeadsTo, now_of};
+ghost use Rattle.upload_keeper.specs.Safety.{Leads, LeadsTo, now_of};
 ghost use Rattle.upload_intake.specs.declared.pool.KeptFault.TheVariants as kept_faults;
 ghost use Rattle.upload_intake.specs.Pools.Stations.{seats_of, workers_of, limits_of, promised, EachWorks, Works};
 
-use crate::keeper::Keeper;
-use crate::keeping::Keeping;
-use crate::lent::{Conns, Gate, Moments, Secrets};
-use crate::seat::{Seat, SeatEnd};
-use crate::settlement::{Settled, lines_of, settle_all};
+use crate::lent::{Conns, Gate, Secrets};
 use crate::work::{Leaving, Station, Work, Worker, WorkerEnd, serve_station};
 use core::thread::Stack;
 use std::alloc::{AllocError, Global};
@@ -23,6 +19,9 @@ use std::sync::Wait;
 use std::thread::{PromisedHandle, Threads};
 use std::{fmt, thread};
 use upload_bytes::Room;
+use upload_keeper::{
+    Keeper, Keeping, KeptService, Moments, Seat, SeatEnd, Settled, lines_of, settle_all,
+};
 use upload_service::{Limits, Service};
 use upload_wire::{ConnectionServer, Observer};
 
@@ -90,19 +89,6 @@ impl fmt::Display for KeptFault {
 }
 
 impl std::error::Error for KeptFault {}
-
-/// A service, and where its changes are kept from now on.
-#[derive(Drop)]
-pub struct KeptService<K> {
-    /// The service, to which what is kept leads.
-    pub service: Service,
-    /// What was kept so far, if the service was there before.
-    pub keeping: K,
-    /// The moment at which to begin, in seconds from the same start as the moments of what was kept. None of what was
-    /// served before was after it, also of what isn't kept: else an upload that was told to be gone could be there
-    /// again. The keeping has noted it.
-    pub since: u64,
-}
 
 /// The stack of a worker's thread, in bytes.
 const STACK: usize = 524_288;

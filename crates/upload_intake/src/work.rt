@@ -1,17 +1,17 @@
 //! A worker, which serves connections one after the other over its seat.
 ghost use Rattle.std.specs.Prelude.{◌≡◌, ◌+◌, min, if◌then◌else◌};
-ghost use Rattle.upload_intake.specs.Seats.{IsSameSeat};
-ghost use Rattle.upload_intake.specs.Pools.Settled.{count_limit};
+ghost use Rattle.upload_keeper.specs.Seats.{IsSameSeat};
+ghost use Rattle.upload_keeper.specs.Settled.{count_limit};
 ghost use Rattle.upload_intake.specs.Pools.Stations.{Works};
 ghost use Rattle.upload_intake.specs.Pools.Working.{IsWorked, ServedComeBack, is_clean, is_gone, lending, means};
 
 use crate::desk::{GatedDesk, SeatDesk};
 use crate::lent::{Conns, Gate, Secrets};
-use crate::seat::{Seat, SeatEnd};
 use std::snapshot::Snapshot;
 use std::sync::Wait;
 use std::thread::{Promise, Threads};
 use upload_bytes::{Spool, Spooling};
+use upload_keeper::{Seat, SeatEnd};
 use upload_wire::{ConnEnd, ConnectionServer, Observer};
 
 /// What a worker serves, with which secrets, and who is told of it.

@@ -11,11 +11,11 @@ use Rattle.upload_service.specs.declared.ask.Ask.{Ask}
 use Rattle.upload_service.specs.declared.answer.Answer.{Answer}
 use Rattle.upload_service.specs.Machine.{State}
 use Rattle.upload_intake.specs.declared.work.WorkerEnd.{WorkerEnd}
-use Rattle.upload_intake.specs.Log.{Step, exchanges_of, taken_by, jobs_of}
-use Rattle.upload_intake.specs.Seats.{SeatState, IsFresh}
-use Rattle.upload_intake.specs.Pools.Served.{IsServed}
-use Rattle.upload_intake.specs.Told.{Told}
-use Rattle.upload_intake.specs.Typed.{AllTyped}
+use Rattle.upload_keeper.specs.Log.{Step, exchanges_of, taken_by, jobs_of}
+use Rattle.upload_keeper.specs.Seats.{SeatState, IsFresh}
+use Rattle.upload_keeper.specs.Served.{IsServed}
+use Rattle.upload_keeper.specs.Told.{Told}
+use Rattle.upload_keeper.specs.Typed.{AllTyped}
 use Rattle.upload_intake.specs.Pools.Working.{Lending, Means, Lent, IsWorked, all_answered, all_unanswered}
 use Rattle.upload_wire.specs.Conversation.{WireExchange}
 

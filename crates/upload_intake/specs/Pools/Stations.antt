@@ -6,7 +6,7 @@ use Rattle.upload_intake.specs.declared.work.Station.{Station}
 use Rattle.upload_intake.specs.declared.work.Work.{Work}
 use Rattle.upload_intake.specs.declared.work.Worker.{Worker}
 use Rattle.upload_intake.specs.declared.work.WorkerEnd.{WorkerEnd}
-use Rattle.upload_intake.specs.Seats.{SeatState, IsSameSeat}
+use Rattle.upload_keeper.specs.Seats.{SeatState, IsSameSeat}
 use Rattle.upload_intake.specs.Pools.Working.{Lending, Means, IsWorked}
 
 module _ {C S G O : Type 0} where

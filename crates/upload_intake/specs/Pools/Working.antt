@@ -4,9 +4,9 @@ use Rattle.std.specs.List.{flat_map}
 use Rattle.upload_service.specs.declared.ask.Ask.{Ask}
 use Rattle.upload_intake.specs.declared.work.Worker.{Worker}
 use Rattle.upload_intake.specs.declared.work.WorkerEnd.{WorkerEnd}
-use Rattle.upload_intake.specs.Seats.{SeatState}
+use Rattle.upload_keeper.specs.Seats.{SeatState}
 use Rattle.upload_intake.specs.SeatConversations.{SeatSteps}
-use Rattle.upload_intake.specs.Pools.Settled.{count_limit}
+use Rattle.upload_keeper.specs.Settled.{count_limit}
 use Rattle.upload_intake.specs.Notices.{Watching}
 use Rattle.upload_intake.specs.Watched.{IsWatched}
 use Rattle.http_wire.specs.States.{SourceState, SinkState}

@@ -4,7 +4,7 @@ use Rattle.std.specs.Vec.Iter.{into_iter_items}
 use Rattle.upload_intake.specs.declared.work.Station.{Station}
 use Rattle.upload_intake.specs.Pools.Stations.{promised, AllLeft, EachWorks}
 use Rattle.upload_intake.specs.Pools.Working.{lending, means}
-use Rattle.upload_intake.proofs.Opening.{all_done, step_on}
+use Rattle.upload_keeper.proofs.Opening.{all_done, step_on}
 use Rattle.upload_intake.proofs.Pooling.{works_more}
 use Rattle.upload_intake.proofs.pool.join_all.Goals as goal
 

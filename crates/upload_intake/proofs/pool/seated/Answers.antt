@@ -1,6 +1,6 @@
 use Rattle.std.proofs.Common.{sym, subst, arith, rules}
 use Rattle.std.specs.Prelude.{All}
-use Rattle.upload_intake.specs.Seats.{IsFresh}
+use Rattle.upload_keeper.specs.Seats.{IsFresh}
 use Rattle.upload_intake.proofs.pool.seated.Goals as goal
 
 pub returns-clause-of_one_call : goal.returns-clause-of_one_call

@@ -1,8 +1,8 @@
 use denote.Param.Send.{sendable}
 use Rattle.std.proofs.Common.{ℕ, List, ◌≤◌, sym, subst}
 use Rattle.upload_service.specs.Machine.{State}
-use Rattle.upload_intake.specs.Log.{Step, exchanges_of, last_moment}
-use Rattle.upload_intake.specs.Safety.{Leads}
+use Rattle.upload_keeper.specs.Log.{Step, exchanges_of, last_moment}
+use Rattle.upload_keeper.specs.Safety.{Leads}
 use Rattle.upload_intake.proofs.pool.serve_kept.Goals as goal
 
 -- what the workers are made of may cross to their threads

@@ -3,7 +3,7 @@ use Rattle.std.proofs.Common.{◌≡◌, ◌<◌, ℕ, ◌++◌, ap, ◌∙◌, 
 use Rattle.std.proofs.lemmas.List.{map-append}
 use Rattle.std.specs.Vec.Iter.{into_iter_items}
 use Rattle.upload_intake.specs.Pools.Stations.{seats_of, workers_of, limits_of}
-use Rattle.upload_intake.proofs.Opening.{all_done, each_push, step_on}
+use Rattle.upload_keeper.proofs.Opening.{all_done, each_push, step_on}
 use Rattle.upload_intake.proofs.pool.stations.Goals as goal
 
 pub loop-worker-preserved : goal.loop-worker-preserved

@@ -1,6 +1,6 @@
 use Rattle.std.proofs.Common.{refl, sym, ◌∙◌, subst, rules, true≢false, arith}
 use Rattle.upload_intake.specs.Desks.{seat_of}
-use Rattle.upload_intake.specs.Seats.{SeatState, IsSameSeat}
+use Rattle.upload_keeper.specs.Seats.{SeatState, IsSameSeat}
 use Rattle.upload_intake.specs.Pools.Working.{lending, means}
 use Rattle.upload_intake.proofs.Conversations.{same_seat, gated_same, same_seat_twice}
 use Rattle.upload_intake.proofs.Working.{Working, Ended, standing, at_first, begins, talked, ends_at_none, ends_gone}

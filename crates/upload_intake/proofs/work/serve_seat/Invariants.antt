@@ -1,5 +1,5 @@
 use Rattle.std.proofs.Common.{◌≡◌}
-use Rattle.upload_intake.specs.Seats.{IsSameSeat}
+use Rattle.upload_keeper.specs.Seats.{IsSameSeat}
 use Rattle.upload_intake.specs.Desks.{seat_of}
 use Rattle.upload_intake.specs.Pools.Working.{lending, means}
 use Rattle.upload_intake.proofs.Working.{Working, standing}

@@ -5,8 +5,8 @@ use denote.Exit as exit
 use denote.Param.Send.{sendable, param_send, arg_send, shr_send}
 use Rattle.upload_intake.specs.Pools.Stations.{promised, AllLeft, EachWorks}
 use Rattle.upload_intake.specs.Pools.Working.{lending, means}
-use Rattle.upload_intake.proofs.Opening.{all_done}
-use Rattle.upload_intake.proofs.Safely.{follows_at_first}
+use Rattle.upload_keeper.proofs.Opening.{all_done}
+use Rattle.upload_keeper.proofs.Safely.{follows_at_first}
 use Rattle.upload_intake.proofs.Pooling.{still_of_one_call, kept_pool}
 use Rattle.upload_intake.proofs.Sent.{station_sent, leaving_sent, run_sent}
 use Rattle.upload_intake.proofs.pool.fn.serve_kept.scope.Goals as goal

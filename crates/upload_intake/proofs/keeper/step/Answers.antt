@@ -1,6 +1,0 @@
-use Rattle.std.proofs.Common.{arith, rules}
-use Rattle.upload_intake.proofs.Unchanged.{turn_lacking}
-use Rattle.upload_intake.proofs.keeper.step.Goals as goal
-
-pub returns-then-changes-clause-turn : goal.returns-then-changes-clause-turn
-returns-then-changes-clause-turn g c = search (rules, arith, turn_lacking)

@@ -1,5 +1,0 @@
-use Rattle.upload_intake.proofs.Restarting.{told_is_kept}
-use Rattle.upload_intake.proofs.laws.told_is_kept.Goals as goal
-
-pub returns : goal.returns
-returns c = told_is_kept

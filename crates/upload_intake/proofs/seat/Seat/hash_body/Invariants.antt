@@ -1,5 +1,0 @@
-use Rattle.std.proofs.Common.{◌≡◌}
-use Rattle.upload_intake.proofs.seat.Seat.hash_body.Given as goal
-
-abbrev pub invariant-hashes : goal.invariant-hashes
-invariant-hashes g l = (l.self ≡ l.fn.self) × (l.body ≡ l.fn.body)

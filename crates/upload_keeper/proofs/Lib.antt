@@ -1,0 +1,11 @@
+pub mod Changes
+pub mod KeeperMoves
+pub mod LineMoves
+pub mod Opening
+pub mod Orders
+pub mod Restarting
+pub mod Safely
+pub mod SeatMoves
+pub mod Sent
+pub mod Settling
+pub mod Unchanged

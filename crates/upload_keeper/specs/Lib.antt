@@ -1,0 +1,14 @@
+pub mod Line
+pub mod Passes
+pub mod Log
+pub mod Seats
+pub mod Replies
+pub mod Typed
+pub mod Served
+pub mod Told
+pub mod Settled
+pub mod Kept
+pub mod Settles
+pub mod Safety
+pub mod Keepings
+pub mod Restarts
