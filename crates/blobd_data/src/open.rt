@@ -1,7 +1,7 @@
 //! A data directory is locked, opened and read.
 ghost use Rattle.std.specs.Prelude.{◌≡◌, ◌≤◌, None, true, [], IfOk};
 ghost use Rattle.upload_service.specs.Machine.{AreLawful};
-ghost use Rattle.upload_intake.specs.Safety.{Leads};
+ghost use Rattle.upload_keeper.specs.Safety.{Leads};
 ghost use Rattle.upload_store.specs.Store.{limits_of};
 ghost use Rattle.upload_keeping.specs.Kept.{start_of, kept_of, waiting_of, last_of};
 ghost use Rattle.blobd_data.specs.declared.open.Damaged.TheVariants.{Refused};
@@ -21,7 +21,7 @@ use std::io::{Eprint, ErrorKind};
 use std::rt::Clock;
 use std::thread::Threads;
 use upload_bytes::Room;
-use upload_intake::KeptService;
+use upload_keeper::KeptService;
 use upload_keeping::{KeepingHost, StoreKeeping, open_ahead, salvage_ahead};
 use upload_records::{Swept, sweep};
 use upload_service::Limits;

@@ -112,14 +112,14 @@ impl<S: Start, H: Holds> FolderShelf<S, H> {
     /// Has a file of the spool stand at this number, unless something stands there: nobody else puts something there
     /// meanwhile, since the folder is locked.
     fn rename(&self, file: &SyncedFile, number: u64) -> io::Result<()> {
-        let Some(from) = file.path() else {
+        let Some(from) = file.path(self.rt.alloc())? else {
             return Err(ErrorKind::InvalidInput.into());
         };
         let to = self.path_of(number)?;
         match fs::symlink_metadata(&self.rt, to.as_str()) {
             Ok(_) => Err(ErrorKind::AlreadyExists.into()),
             Err(error) if error.kind() == ErrorKind::NotFound => {
-                fs::rename(&self.rt, from, to.as_str())
+                fs::rename(&self.rt, from.as_str(), to.as_str())
             }
             Err(error) => Err(error),
         }

@@ -35,7 +35,7 @@ fn single_of(
     holding: Holding,
     blob: &Blob,
     in_files: bool,
-) -> Result<Noted, AllocError> {
+) -> Result<Noted, CompactFault> {
     let Holding { name, digest } = holding;
     let copy = if in_files {
         Vec::new(alloc)

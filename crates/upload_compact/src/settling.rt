@@ -9,30 +9,32 @@ use bodies::Shelf;
 use sqlite_disk::Disk;
 use std::alloc::{AllocError, Global};
 use std::collections::BTreeMap;
-use upload_bytes::{Blob, BlobBytes, Body, Part};
+use upload_bytes::{Blob, BlobBytes, Body, Stretch};
 use upload_journal::{BodyFile, MOST_HERE};
 use upload_names::BlobDigest;
 use upload_service::Service;
 use upload_store::{Store, StoreFault};
 
-/// Bytes that are copied from the front of parts, one behind another.
+/// Bytes that are copied from the front of stretches, one behind another.
 #[derive(Drop)]
 struct Cursor<'a> {
-    parts: &'a [Part],
-    /// How many bytes of the first part were copied.
+    stretches: &'a [Stretch],
+    /// How many bytes of the first stretch were copied.
     at: usize,
 }
 
 impl<'a> Cursor<'a> {
-    /// Goes on by so many bytes, and copies them if that is asked for.
-    fn go_on(&mut self, alloc: Global, len: u64, is_copied: bool) -> Result<Vec<u8>, AllocError> {
+    /// Goes on by so many bytes, and copies them if that is asked for. `NotTheSame` says that they are in a file.
+    fn go_on(&mut self, alloc: Global, len: u64, is_copied: bool) -> Result<Vec<u8>, CompactFault> {
         let mut bytes = Vec::new(alloc);
         let mut left = len;
         for _ in 0..u64::MAX {
-            let [part, behind @ ..] = self.parts else {
+            let [stretch, behind @ ..] = self.stretches else {
                 break;
             };
-            let whole = part.as_slice();
+            let Ok(whole) = stretch.as_slice() else {
+                return Err(CompactFault::NotTheSame);
+            };
             let rest = whole.get(self.at..).unwrap_or(&[]);
             if rest.len() as u64 > left {
                 let (front, _) = rest.split_at(left as usize);
@@ -46,7 +48,7 @@ impl<'a> Cursor<'a> {
                 bytes.extend_from_slice(rest)?;
             }
             left -= rest.len() as u64;
-            self.parts = behind;
+            self.stretches = behind;
             self.at = 0;
         }
         Ok(bytes)
@@ -54,10 +56,10 @@ impl<'a> Cursor<'a> {
 }
 
 /// A copy of a blob's bytes.
-pub fn copy_of(alloc: Global, blob: &Blob) -> Result<Vec<u8>, AllocError> {
+pub fn copy_of(alloc: Global, blob: &Blob) -> Result<Vec<u8>, CompactFault> {
     let bytes = blob.share(alloc)?;
     let mut cursor = Cursor {
-        parts: bytes.parts(),
+        stretches: bytes.stretches(),
         at: 0,
     };
     cursor.go_on(alloc, blob.len(), true)
@@ -126,7 +128,7 @@ fn files_at<D: Disk, S: Shelf>(
 {
     let mut files = Vec::new(alloc);
     let mut cursor = Cursor {
-        parts: bytes.parts(),
+        stretches: bytes.stretches(),
         at: 0,
     };
     for place in places {

@@ -17,7 +17,7 @@ use Rattle.upload_journal.specs.Checksums.{with_checksum}
 use Rattle.upload_journal.specs.Fields.{IsFile, IsKeptBody, IsTold, told_text}
 use Rattle.upload_journal.specs.Replay.{IsAskOf, IsBodyOf}
 use Rattle.upload_journal.specs.Short.{kept_of, kept_body, IsPlaced, HasPlace, told_of}
-use Rattle.upload_intake.specs.Safety.{Asked, answered_so}
+use Rattle.upload_keeper.specs.Safety.{Asked, answered_so}
 use Rattle.upload_service.specs.Run.{Exchange}
 use Rattle.upload_keeping.specs.Exchanges.{IsSound, IsDrafted, ArePlaced, body_in}
 use Rattle.upload_keeping.specs.Keeping.{Records, Holds}

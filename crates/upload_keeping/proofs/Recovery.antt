@@ -11,10 +11,10 @@ use Rattle.bodies.specs.declared.shelf.Shelf as shelves
 use Rattle.upload_service.specs.declared.answer.Answer.{Answer}
 use Rattle.upload_service.specs.Machine.{State, empty_state}
 use Rattle.upload_service.specs.Run.{Exchange, Run, NeverBefore}
-use Rattle.upload_intake.specs.Pools.Restarts.{asked_of, AreRemembered, HasAnswer}
-use Rattle.upload_intake.specs.Log.{last_moment}
-use Rattle.upload_intake.specs.Safety.{Asked, MayBeHeard, changes, changed}
-use Rattle.upload_intake.proofs.Restarting.{told_is_kept}
+use Rattle.upload_keeper.specs.Restarts.{asked_of, AreRemembered, HasAnswer}
+use Rattle.upload_keeper.specs.Log.{last_moment}
+use Rattle.upload_keeper.specs.Safety.{Asked, MayBeHeard, changes, changed}
+use Rattle.upload_keeper.proofs.Restarting.{told_is_kept}
 use Rattle.upload_journal.specs.declared.entries.Entry.{Entry}
 use Rattle.upload_journal.specs.Entries.{IsEntry, entry_text}
 use Rattle.upload_journal.specs.Replay.{Point, Replays}

@@ -9,8 +9,8 @@ use Rattle.upload_service.specs.declared.answer.Answer.{Answer}
 use Rattle.upload_service.specs.declared.answer.Answer.TheVariants.{NoMemory}
 use Rattle.upload_service.specs.Machine.{State}
 use Rattle.upload_service.specs.Run.{Exchange, Run, NeverBefore}
-use Rattle.upload_intake.specs.Pools.Restarts.{asked_of, AreRemembered}
-use Rattle.upload_intake.proofs.Orders.{turns_same}
+use Rattle.upload_keeper.specs.Restarts.{asked_of, AreRemembered}
+use Rattle.upload_keeper.proofs.Orders.{turns_same}
 use Rattle.upload_journal.specs.declared.body.BodyFile.{BodyFile}
 use Rattle.upload_journal.specs.declared.body.KeptBody.{KeptBody}
 use Rattle.upload_journal.specs.declared.body.KeptBody.TheVariants.{Here, InFiles}

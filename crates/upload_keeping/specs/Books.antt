@@ -6,7 +6,7 @@ use Rattle.bodies.specs.declared.shelf.Shelf as shelves
 use Rattle.journal.specs.Batch.{batch_records}
 use Rattle.upload_service.specs.Machine.{State, empty_state}
 use Rattle.upload_service.specs.Run.{Exchange}
-use Rattle.upload_intake.specs.Safety.{Asked, answered_so}
+use Rattle.upload_keeper.specs.Safety.{Asked, answered_so}
 use Rattle.upload_journal.specs.Replay.{Point}
 use Rattle.upload_store.specs.Runs.{IsReplayOf, start_of}
 use Rattle.upload_store.specs.Safe.{IsSafe}

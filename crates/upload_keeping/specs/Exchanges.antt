@@ -12,7 +12,7 @@ use Rattle.upload_journal.specs.declared.body.BodyFile.{BodyFile}
 use Rattle.upload_journal.specs.Fields.{IsReference, IsFile}
 use Rattle.upload_journal.specs.Short.{IsPlaced, kept_of}
 use Rattle.upload_journal.specs.Entries.{asked_text}
-use Rattle.upload_intake.specs.Safety.{Asked}
+use Rattle.upload_keeper.specs.Safety.{Asked}
 
 -- the body of a request, if it has one
 abbrev pub body_in : Ask → Option (List ℕ)

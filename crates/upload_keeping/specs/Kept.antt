@@ -5,7 +5,7 @@ use Rattle.bodies.specs.declared.shelf.Shelf as shelves
 use Rattle.upload_service.specs.Machine.{State}
 use Rattle.upload_service.specs.Run.{Exchange}
 use Rattle.upload_store.specs.declared.store.Store.{Store}
-use Rattle.upload_intake.specs.Safety.{Asked}
+use Rattle.upload_keeper.specs.Safety.{Asked}
 use Rattle.upload_keeping.specs.Books as books
 use Rattle.upload_keeping.specs.declared.noted.Noted.{Noted}
 use Rattle.upload_keeping.specs.declared.keeping.StoreKeeping.{StoreKeeping}

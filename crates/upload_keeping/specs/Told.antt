@@ -9,8 +9,8 @@ use Rattle.upload_service.specs.declared.limits.Limits.{Limits}
 use Rattle.upload_service.specs.Machine.{State, empty_state}
 use Rattle.upload_service.specs.Headline.{Headline}
 use Rattle.upload_service.specs.Run.{Exchange, Run, NeverBefore}
-use Rattle.upload_intake.specs.Pools.Restarts.{asked_of, HasAnswer}
-use Rattle.upload_intake.specs.Safety.{MayBeHeard}
+use Rattle.upload_keeper.specs.Restarts.{asked_of, HasAnswer}
+use Rattle.upload_keeper.specs.Safety.{MayBeHeard}
 use Rattle.upload_journal.specs.Replay.{Point}
 use Rattle.upload_store.specs.Runs.{IsReplayOf, start_of}
 use Rattle.upload_store.specs.Store.{IsClean, IsWhole, MayLeave, limits_of}

@@ -1,6 +1,6 @@
 //! Where a keeping begins sooner: over a store whose bodies are read, and hashed, in threads.
 ghost use Rattle.std.specs.Prelude.{◌≡◌, ◌⊎◌, ◌≤◌, [], IfOk, IfErr};
-ghost use Rattle.upload_intake.specs.Safety.{Leads};
+ghost use Rattle.upload_keeper.specs.Safety.{Leads};
 ghost use Rattle.upload_keeping.specs.Ahead.{GivesUpOver, NotesNot};
 ghost use Rattle.upload_keeping.specs.Begun.{Begins, BeginsWithout, LacksMemory};
 ghost use Rattle.upload_keeping.specs.Kept.{start_of, kept_of, waiting_of, last_of};
@@ -13,7 +13,7 @@ use bodies::Lends;
 use sqlite_disk::Disk;
 use std::alloc::Global;
 use std::thread::Threads;
-use upload_intake::KeptService;
+use upload_keeper::KeptService;
 use upload_store::{Store, StoreFault};
 
 /// Begins as `open` does, and sooner: the bodies are read, and hashed, in threads (`Store::recover_ahead`).

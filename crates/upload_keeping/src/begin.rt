@@ -1,6 +1,6 @@
 //! Where a keeping begins.
 ghost use Rattle.std.specs.Prelude.{◌≡◌, ◌≤◌, [], IfOk, IfErr, IsTrue};
-ghost use Rattle.upload_intake.specs.Safety.{Leads};
+ghost use Rattle.upload_keeper.specs.Safety.{Leads};
 ghost use Rattle.upload_service.specs.Machine.{empty_state};
 ghost use Rattle.upload_store.specs.Runs.{IsReplayOf, start_of as start_at};
 ghost use Rattle.upload_store.specs.Store.{shelf_of, is_open, kept_of as records_of, limits_of, IsClean};
@@ -13,8 +13,8 @@ use crate::keeping::StoreKeeping;
 use bodies::Shelf;
 use sqlite_disk::Disk;
 use std::alloc::Global;
-use upload_intake::KeptService;
 use upload_journal::Replay;
+use upload_keeper::KeptService;
 use upload_store::{Store, StoreFault};
 
 /// Begins to keep in a store that was opened what the service changes that was recovered from it, at the moment that

@@ -1,6 +1,6 @@
 //! The books of a keeping: its store, what waits in a batch, and what it kept.
 ghost use Rattle.std.specs.Prelude.{◌≡◌, ◌≤◌, ◌∷◌, ◌++◌, [], max, IsTrue, IfSome, None, true, false};
-ghost use Rattle.upload_intake.specs.Safety.{asked, answered_so};
+ghost use Rattle.upload_keeper.specs.Safety.{asked, answered_so};
 ghost use Rattle.upload_service.specs.Machine.{empty_state};
 ghost use Rattle.upload_store.specs.Runs.{IsReplayOf, start_of};
 ghost use Rattle.upload_store.specs.Store.{shelf_of, is_open, kept_of, limits_of, IsClean};

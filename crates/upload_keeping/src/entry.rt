@@ -1,7 +1,7 @@
 //! The entry of a request, up to its answer and then whole.
 ghost use Rattle.std.specs.Prelude.{◌≡◌, ◌++◌, ◌∷◌, [], List, ℕ, OnOk, IfOk, IfSome, option_map, Ok, Some, None, length};
 ghost use Rattle.journal.specs.Batch.{batch_records};
-ghost use Rattle.upload_intake.specs.Safety.{Asked, asked, answered_so};
+ghost use Rattle.upload_keeper.specs.Safety.{Asked, asked, answered_so};
 ghost use Rattle.upload_journal.specs.Entries.{asked_text};
 ghost use Rattle.upload_journal.specs.Short.{kept_of as kept_ask, Fits};
 ghost use Rattle.upload_service.specs.Run.{Exchange};

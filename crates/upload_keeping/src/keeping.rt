@@ -10,7 +10,7 @@ use crate::noted::Noted;
 use bodies::Shelf;
 use sqlite_disk::Disk;
 use upload_bytes::Spool;
-use upload_intake::{Keeping, NotKept};
+use upload_keeper::{Keeping, NotKept};
 use upload_service::{Answer, Ask, Service};
 use upload_store::Store;
 
@@ -73,7 +73,7 @@ impl<D: Disk, S: Shelf, H: Drop> StoreKeeping<D, S, H> {
 
 impl<D: Disk, S: Shelf, H: KeepingHost> Keeping for StoreKeeping<D, S, H> {
     ghost use Rattle.std.specs.Prelude.{◌≡◌, ◌≤◌, [], ◌++◌, true, OnOk, OnErr};
-    ghost use Rattle.upload_intake.specs.Safety.{IsSafe};
+    ghost use Rattle.upload_keeper.specs.Safety.{IsSafe};
     ghost use Rattle.upload_keeping.specs.declared.fault.KeepFault.{KeepFault};
     ghost use Rattle.upload_keeping.specs.Kept.{start_of, kept_of, waiting_of, last_of, upto_of, has_failed, noted_of};
 

@@ -1,6 +1,6 @@
 //! What is noted of a request before the step that takes it.
 ghost use Rattle.std.specs.Prelude.{◌≡◌};
-ghost use Rattle.upload_intake.specs.Safety.{asked};
+ghost use Rattle.upload_keeper.specs.Safety.{asked};
 
 use std::marker::Model;
 use std::snapshot::Snapshot;
@@ -16,7 +16,7 @@ pub(crate) struct Note {
 }
 
 impl Model for Note {
-    ghost use Rattle.upload_intake.specs.Safety.{Asked, asked};
+    ghost use Rattle.upload_keeper.specs.Safety.{Asked, asked};
 
     ghost Value = { Asked };
 

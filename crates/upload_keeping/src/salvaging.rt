@@ -1,6 +1,6 @@
 //! Where a keeping begins over a store that may be damaged.
 ghost use Rattle.std.specs.Prelude.{◌≡◌, ◌≢◌, ◌⊎◌, ◌≤◌, ◌∷◌, ◌++◌, [], IfOk, IfErr, OnOk, IsTrue};
-ghost use Rattle.upload_intake.specs.Safety.{Leads};
+ghost use Rattle.upload_keeper.specs.Safety.{Leads};
 ghost use Rattle.upload_journal.specs.declared.entries.Entry.TheVariants.{NumbersUpTo};
 ghost use Rattle.upload_journal.specs.Entries.{entry_text};
 ghost use Rattle.upload_service.specs.Machine.{empty_state};
@@ -18,8 +18,8 @@ use bodies::Shelf;
 use journal::{Batch, Error};
 use sqlite_disk::Disk;
 use std::alloc::Global;
-use upload_intake::KeptService;
 use upload_journal::numbers_text;
+use upload_keeper::KeptService;
 use upload_store::{Losses, Salvage, Store, StoreFault};
 
 /// A keeping that has begun over a store that may be damaged.

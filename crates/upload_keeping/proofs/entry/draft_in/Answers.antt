@@ -1,5 +1,5 @@
 use Rattle.std.proofs.Common.{[], ◌∷◌}
-use Rattle.upload_intake.specs.Safety.{asked}
+use Rattle.upload_keeper.specs.Safety.{asked}
 use Rattle.upload_keeping.proofs.Entries.{drafted_so, placed_in}
 use Rattle.upload_store.specs.Safe.{IsSafe}
 use Rattle.upload_store.specs.Store.{shelf_of}

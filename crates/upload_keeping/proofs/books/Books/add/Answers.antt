@@ -1,4 +1,4 @@
-use Rattle.upload_intake.specs.Safety.{answered_so}
+use Rattle.upload_keeper.specs.Safety.{answered_so}
 use Rattle.upload_keeping.proofs.Going.{is_fault, is_fine, was_put, one_more_waits, kept_no_more, kept_more}
 use Rattle.upload_keeping.proofs.Going.{goes_nowhere}
 use Rattle.std.proofs.Common.{refl}
