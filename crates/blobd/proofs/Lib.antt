@@ -1,3 +1,1 @@
 pub mod OnceFacts
-pub mod SizeTexts
-pub mod WordFacts

@@ -1,12 +1,12 @@
 //! `blobd compact`: room in a data directory.
 
-use crate::words::Keep;
 use blobd_data::{
     AnyBodies, CompactingFault, ListFault, Missing, Waste, compact_data, foresee_data, hint_on,
     read_list, read_status, seconds_now, tell_end, tell_files, tell_final, weigh_data,
 };
 use blobd_serve::limits;
 use blobd_shared::{DONE, FAULT, Quantity, REFUSED, print_line};
+use blobd_words::Keep;
 use journal_file::Wary;
 use std::io::{self, Write};
 use std::thread::Threads;

@@ -1,6 +1,6 @@
 //! `blobd serve`: what is listened at, and what stands behind it.
 ghost use Rattle.std.specs.Prelude.{◌≡◌, ◌≤◌, []};
-ghost use Rattle.upload_intake.specs.Safety.{Leads};
+ghost use Rattle.upload_keeper.specs.Safety.{Leads};
 
 use blobd_data::{
     AnyBodies, CompactingFault, Damaged, DataFault, Teller, Watch, compact_if_worth, hint_on,
@@ -19,7 +19,7 @@ use std::thread::Threads;
 use std::time::Instant;
 use std::{fmt, io};
 use upload_bytes::Room;
-use upload_intake::{Keeping, KeptService};
+use upload_keeper::{Keeping, KeptService};
 use upload_service::Counts;
 
 /// To whom a server tells of itself.

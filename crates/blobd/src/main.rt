@@ -14,32 +14,24 @@
 ghost use Rattle.std.specs.Prelude.{◌≡◌, ◌≤◌, IfOk};
 
 mod compacting;
-mod complaint;
-mod help;
 mod listening;
-mod memory;
 mod once;
-mod size;
 mod status;
 mod streams;
-#[cfg(test)]
-mod tests;
-mod words;
 
 use crate::compacting::run_compact;
-use crate::complaint::{Complaint, complaint_on, complaint_text};
-use crate::help::{HELP, VERSION};
 use crate::listening::{Audience, listen, listen_keeping};
-use crate::memory::usual_memory;
 use crate::once::run_once;
-use crate::size::{is_slow, read_memory};
 use crate::status::print_status;
 use crate::streams::hold_standard_streams;
-use crate::words::{Command, USAGE, read_switch, read_words, read_workers};
 use blobd_data::Damaged;
 use blobd_push::run_push;
 use blobd_serve::{Demand, Terms};
 use blobd_shared::{DONE, FAULT, print_line};
+use blobd_words::{
+    Command, Complaint, HELP, USAGE, VERSION, complaint_on, complaint_text, is_slow, read_memory,
+    read_switch, read_words, read_workers, usual_memory,
+};
 use http_wire::{FromRead, ToWrite};
 use std::env::VarError;
 use std::fs::Files;

@@ -7,9 +7,9 @@ use Rattle.std.proofs.lemmas.List.{get_or-map, length-map}
 use Rattle.upload_service.specs.Machine.{State}
 use Rattle.upload_intake.specs.declared.work.WorkerEnd.{WorkerEnd}
 use Rattle.upload_intake.specs.Pools.ServedPool.{Given, Left, IsServedSince}
-use Rattle.upload_intake.specs.Pools.Settled.{count_limit}
+use Rattle.upload_keeper.specs.Settled.{count_limit}
 use Rattle.upload_intake.specs.Pools.Working.{IsLast, Lending, Lent, Means, Serves, Talk}
-use Rattle.upload_intake.specs.Seats.{SeatState}
+use Rattle.upload_keeper.specs.Seats.{SeatState}
 use Rattle.upload_intake.proofs.Transcripts.{connections_told}
 use Rattle.upload_intake.proofs.Working.{behind}
 use Rattle.upload_wire.specs.declared.connection.ConnEnd.TheVariants.{DeskGone}

@@ -5,7 +5,7 @@ use Rattle.upload_service.specs.declared.ask.Ask.{Ask}
 use Rattle.upload_service.specs.declared.answer.Answer.{Answer}
 use Rattle.upload_intake.specs.Pools.Working.{Lending, Means, Talk, steps, connection_given, connection_left}
 use Rattle.upload_intake.specs.SeatMoves.{AsksWithDrawn}
-use Rattle.upload_intake.specs.Seats.{SeatState}
+use Rattle.upload_keeper.specs.Seats.{SeatState}
 use Rattle.upload_intake.proofs.Working.{seen_as}
 use Rattle.upload_wire.specs.Conversation.{connection}
 use Rattle.blobd_shared.specs.Connections.{transcript_of}

@@ -12,7 +12,7 @@ use Rattle.upload_intake.specs.Pools.ServedPool.{Given, Left, IsServedPool, IsSe
 use Rattle.upload_intake.specs.Pools.KeptPool.{IsKeptPool}
 use Rattle.upload_intake.specs.Transcripts.{TellsAll}
 use Rattle.upload_intake.specs.Pools.Working.{Lending, Means, Lent, Talk}
-use Rattle.upload_intake.specs.Seats.{SeatState, Hears}
+use Rattle.upload_keeper.specs.Seats.{SeatState, Hears}
 use Rattle.upload_wire.specs.Conversation.{ConnectionState, IsConversation, Moves}
 use Rattle.upload_wire.specs.declared.connection.ConnEnd.{ConnEnd}
 use Rattle.http_wire.specs.States.{TranscriptState}

@@ -2,7 +2,7 @@
 ghost use Rattle.std.specs.Prelude.{◌≡◌, ◌<◌, ◌≤◌, true, [], All, IfOk, map, option_map};
 ghost use Rattle.std.specs.Prelude.{vec_capacity, vec_len};
 ghost use Rattle.upload_intake.specs.Pools.Working.{lending, means};
-ghost use Rattle.upload_intake.specs.Safety.{Leads};
+ghost use Rattle.upload_keeper.specs.Safety.{Leads};
 ghost use Rattle.blobd_serve.specs.Doors.{doors_of, lefts_of};
 ghost use Rattle.blobd_serve.specs.Serving.{EndsKeeping, IsKeptOver, DoorsTakeBack};
 

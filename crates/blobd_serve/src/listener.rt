@@ -3,7 +3,7 @@
 //! crate but `closing`, where each goes after its last reply.
 ghost use Rattle.std.specs.Prelude.{◌≡◌, ◌<◌, ◌≤◌, [], All, IfOk, false, vec_len};
 ghost use Rattle.upload_intake.specs.Pools.Working.{lending, means};
-ghost use Rattle.upload_intake.specs.Safety.{Leads};
+ghost use Rattle.upload_keeper.specs.Safety.{Leads};
 ghost use Rattle.blobd_serve.specs.Serving.{IsServed, ServesAnew, ServesOn};
 
 use crate::accept::{Accepted, Reader, Terms, Writer};
@@ -16,7 +16,7 @@ use crate::serve::serve_over;
 use crate::shutting::{Ended, Shutter, Shutting};
 use crate::workers::{SinceStart, SystemSecrets};
 use blobd_shared::{ConnHistory, FAULT, Inlet, Outlet, print_line};
-use http_wire::{ByteSink, ByteSource, Transcript};
+use http_wire::{ByteSink, ByteSource, Excerpt, Transcript};
 use std::alloc::{AllocError, Global};
 use std::io;
 use std::io::{Eprint, ErrorKind, Read, Write};
@@ -81,6 +81,18 @@ impl Outlet for Socket {
         let mut stream = self.stream()?;
         let count = stream.write(buf)?;
         self.moved = self.moved.and(&buf[..count]);
+        Ok(count)
+    }
+
+    // What came of the file is written, and what the file was given is told: this is the one place where the one is taken
+    // for the other.
+    fn write_excerpt(&mut self, excerpt: &Excerpt<'_>) -> io::Result<usize> {
+        if excerpt.as_slice().is_empty() {
+            return Err(ErrorKind::UnexpectedEof.into());
+        }
+        let mut stream = self.stream()?;
+        let count = stream.write(excerpt.as_slice())?;
+        self.moved = self.moved.and_excerpt(excerpt, count);
         Ok(count)
     }
 

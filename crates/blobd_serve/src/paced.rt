@@ -7,6 +7,7 @@ ghost use Rattle.blobd_serve.specs.Pace.{pace_after, window_of};
 
 use crate::accepts::Timed;
 use blobd_shared::{Inlet, Outlet};
+use http_wire::Excerpt;
 use std::alloc::{AllocError, Global};
 use std::io;
 use std::io::ErrorKind;
@@ -330,6 +331,32 @@ fn write_in_time<S: Outlet + Timed, R: Clock>(
     Err(cut_off())
 }
 
+/// The same of an excerpt of a file.
+fn write_excerpt_in_time<S: Outlet + Timed, R: Clock>(
+    stream: &mut S,
+    watch: &mut Watch<'_, R>,
+    excerpt: &Excerpt<'_>,
+) -> io::Result<usize>
+    ensures bound { IfOk result (λ n. n ≤ length excerpt.now.told) }
+    ensures told { WriteTakes (S.taken stream.old) (S.taken stream.new) result excerpt.now.told }
+    ensures resumed { IfErr result (λ error. error_kind error ≢ ErrorKind.Interrupted) }
+{
+    for _ in 0..u64::MAX {
+        let Some(pace) = watch.pace else {
+            break;
+        };
+        if stream.has_ended() || watch.allow_write(stream, pace).is_err() {
+            break;
+        }
+        let begun = watch.now();
+        let wrote = stream.write_excerpt(excerpt);
+        if !watch.goes_on(pace, begun, &wrote) {
+            return wrote;
+        }
+    }
+    Err(cut_off())
+}
+
 impl<'a, S: Inlet + Timed, R: Clock> Inlet for Half<'a, S, R> {
     ghost given = { λ h. S.given h.stream };
 
@@ -349,6 +376,13 @@ impl<'a, S: Outlet + Timed, R: Clock> Outlet for Half<'a, S, R> {
             self.watch.pace = Some(Pace::begun());
         }
         write_in_time(&mut self.stream, &mut self.watch, buf)
+    }
+
+    fn write_excerpt(&mut self, excerpt: &Excerpt<'_>) -> io::Result<usize> {
+        if self.turn.write() {
+            self.watch.pace = Some(Pace::begun());
+        }
+        write_excerpt_in_time(&mut self.stream, &mut self.watch, excerpt)
     }
 
     fn flush(&mut self) -> io::Result<()> {

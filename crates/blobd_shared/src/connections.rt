@@ -4,8 +4,8 @@ ghost use Rattle.http_wire.specs.States.{TranscriptState};
 ghost use Rattle.blobd_shared.specs.Connections.{ConnEvent, ReadGives, WriteTakes};
 ghost use Rattle.blobd_shared.specs.Connections.ConnEvent.{made, given_back};
 
-use http_wire::History;
-use std::io;
+use http_wire::{Excerpt, History};
+use std::io::{self, ErrorKind};
 use std::marker::Model;
 use std::snapshot::Snapshot;
 
@@ -33,6 +33,16 @@ pub trait Outlet {
     fn write(&mut self, buf: &[u8]) -> io::Result<usize>
         ensures bound { IfOk result (λ n. n ≤ length buf.now) }
         ensures told { WriteTakes (taken self.old) (taken self.new) result buf.now };
+
+    /// Writes what comes next of a file: it is told as what the file was given there. An end that never sends one refuses
+    /// it.
+    fn write_excerpt(&mut self, excerpt: &Excerpt<'_>) -> io::Result<usize>
+        ensures bound { IfOk result (λ n. n ≤ length excerpt.now.told) }
+        ensures told { WriteTakes (taken self.old) (taken self.new) result excerpt.now.told }
+    {
+        let _ = excerpt;
+        Err(ErrorKind::Unsupported.into())
+    }
 
     /// Hands on what was written.
     fn flush(&mut self) -> io::Result<()>

@@ -2,7 +2,7 @@
 ghost use Rattle.std.specs.Prelude.{◌≡◌, []};
 
 use crate::connections::{Inlet, Outlet};
-use http_wire::{ByteSink, ByteSource, Failed, History};
+use http_wire::{ByteSink, ByteSource, Excerpt, Failed, History};
 
 /// An end of a connection, whose calls are counted for contracts alone. What it moves is what the end moves.
 #[derive(Drop)]
@@ -78,6 +78,18 @@ impl<S: Outlet> ByteSink for Counted<S> {
         self.unflushed = self.unflushed.and(&());
         match self.end.write(buf) {
             Ok(count) if count > 0 || buf.is_empty() => Ok(count),
+            _ => {
+                self.failed = self.failed.and(&());
+                Err(Failed)
+            }
+        }
+    }
+
+    fn write_excerpt(&mut self, excerpt: &Excerpt<'_>) -> Result<usize, Failed> {
+        self.calls = self.calls.and(&());
+        self.unflushed = self.unflushed.and(&());
+        match self.end.write_excerpt(excerpt) {
+            Ok(count) if count > 0 || excerpt.is_empty() => Ok(count),
             _ => {
                 self.failed = self.failed.and(&());
                 Err(Failed)

@@ -54,8 +54,10 @@ fn main(rt: HostRuntime) -> io::Result<()> {
         } = answer
         {
             let mut bytes = Vec::new(alloc);
-            for part in blob.parts() {
-                bytes.extend_from_slice(part.as_slice())?;
+            for stretch in blob.stretches() {
+                if let Ok(stretch) = stretch.as_slice() {
+                    bytes.extend_from_slice(stretch)?;
+                }
             }
             println!(rt; "{}", BlobDigest::of_sha256(bytes.as_slice()))?;
         }

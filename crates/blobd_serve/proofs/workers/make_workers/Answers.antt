@@ -1,7 +1,7 @@
 use Rattle.std.proofs.Common.{◌≡◌, ◌<◌, ℕ, ◌++◌, [], ◌∷◌, ap, ◌∙◌, sym, subst, length, get_or}
 use Rattle.std.proofs.lemmas.List.{map-append}
 use Rattle.std.specs.Vec.Iter.{into_iter_items}
-use Rattle.upload_intake.proofs.Opening.{each_push, step_on}
+use Rattle.upload_keeper.proofs.Opening.{each_push, step_on}
 use Rattle.blobd_serve.specs.Doors.{doors_of, lefts_of}
 use Rattle.blobd_serve.proofs.workers.make_workers.Goals as goal
 

@@ -1,6 +1,6 @@
 use Rattle.std.proofs.Common.{◌++◌, [], ◌∷◌, ap, ◌∙◌, arith}
 use Rattle.std.specs.Vec.Iter.{into_iter_items}
-use Rattle.upload_intake.proofs.Opening.{step_on}
+use Rattle.upload_keeper.proofs.Opening.{step_on}
 use Rattle.blobd_serve.specs.Doors.{doors_of}
 use Rattle.blobd_serve.proofs.workers.take_doors.Goals as goal
 

@@ -1,0 +1,2 @@
+pub mod SizeTexts
+pub mod WordFacts
