@@ -1,11 +1,15 @@
-//! Tests of `upload_intake`, in a crate of their own: the prover goes through a crate with tests twice, and its
-//! must-fail edits wait for both.
+//! Tests of `upload_keeper` and `upload_intake`, and of what the laws of `end_to_end` speak of. They stand in a crate of
+//! their own, since the prover goes through a crate with tests twice.
 #![tactic(auto)]
 
 #[cfg(test)]
-mod asking;
+mod expect;
 #[cfg(test)]
-mod checks;
+mod network;
+#[cfg(test)]
+mod pushes;
+#[cfg(test)]
+mod seats;
 #[cfg(test)]
 mod secrets;
 #[cfg(test)]

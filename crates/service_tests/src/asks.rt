@@ -1,169 +1,64 @@
 //! Requests and answers as lines of a table. Tables are statics: a constant's rows are made anew, and proved, wherever
 //! it is used.
 
+ghost use Rattle.std.specs.Prelude.{◌≡◌, ◌≤◌, ◌^◌};
+ghost use Rattle.upload_service.specs.Machine.{AreLawful};
+
 use std::alloc::{AllocError, Global};
+use std::process::Abort;
 use upload_bytes::{BlobBytes, Body, BodyBuilder, InPlace};
-use upload_names::{Algorithm, BlobDigest, ByteRange, NameFault, RepoName, UploadRef};
-use upload_service::{Answer, Ask, Extent, Refusal};
+use upload_names::{Algorithm, BlobDigest, ByteRange, RepoName, UploadRef};
+use upload_service::{Answer, Ask, Extent, Limits, Refusal, Service};
 
-/// Why a request can't be made of a line.
-#[derive(Clone, Copy, Debug)]
-pub enum Unmade {
-    NoName,
-    NoDigest,
-    NoMemory,
-}
+/// What a test or a part of one ends with: there may be no memory for what it makes.
+pub type Done = Result<(), AllocError>;
 
-impl From<AllocError> for Unmade {
-    fn from(_: AllocError) -> Unmade {
-        Unmade::NoMemory
-    }
-}
-
-impl From<NameFault> for Unmade {
-    fn from(fault: NameFault) -> Unmade {
-        match fault {
-            NameFault::NoMemory => Unmade::NoMemory,
-            _ => Unmade::NoName,
-        }
-    }
-}
-
-/// A session's number and the last byte of its secret, whose other bytes are zero.
+/// What is asked, with the texts of digests, references and ranges. No text is no range.
 #[derive(Clone, Copy)]
-pub struct At(pub u32, pub u8);
-
-/// A Content-Range.
-#[derive(Clone, Copy)]
-pub enum Place {
-    Absent,
-    Bad,
-    From(u64, u64),
-}
-
-/// What is asked. Digests are texts, and one that isn't a digest's is none.
-#[derive(Clone, Copy)]
-pub enum Word {
+pub enum Word<'w> {
     Base,
-    Get(&'static [u8]),
-    Head(&'static [u8]),
+    Get(&'w [u8]),
+    Head(&'w [u8]),
     Open,
-    Single(&'static [u8], &'static [u8]),
-    Mount(&'static [u8], &'static [u8]),
-    Chunk(At, Place, &'static [u8]),
-    Status(At),
-    Close(At, Place, &'static [u8], &'static [u8]),
-    Refused(Refusal),
+    Single(&'w [u8], &'w [u8]),
+    Mount(&'w [u8], &'w [u8]),
+    Chunk(&'w [u8], &'w [u8], &'w [u8]),
+    Status(&'w [u8]),
+    Close(&'w [u8], &'w [u8], &'w [u8], &'w [u8]),
+    Judged(Refusal),
 }
 
 /// What is answered.
 #[derive(Clone, Copy)]
-pub enum Told {
-    Base,
-    Bytes(&'static [u8]),
+pub enum Told<'t> {
+    Welcome,
+    Bytes(&'t [u8]),
     Size(u64),
-    Begun(u32),
-    Stored(&'static [u8]),
-    Taken(At, u64),
-    Standing(At, u64),
-    Misplaced(At, u64),
+    Begun(&'t [u8]),
+    Stored(&'t [u8]),
+    Taken(&'t [u8], u64),
+    Standing(&'t [u8], u64),
+    Misplaced(&'t [u8], u64),
     Refused(Refusal),
-}
-
-/// The kinds of answers.
-#[derive(Clone, Copy, PartialEq, Eq)]
-pub enum Kind {
-    Base,
-    /// With the blob's bytes.
-    Blob,
-    /// To a HEAD.
-    Size,
-    Begun,
-    Stored,
-    Taken,
-    Standing,
-    Misplaced,
-    Refused(Refusal),
-    NoMemory,
-}
-
-/// What an answer says, but for its name and a blob's bytes.
-#[derive(Clone, Copy, PartialEq, Eq)]
-pub struct Said {
-    pub kind: Kind,
-    at: Option<UploadRef>,
-    digest: Option<BlobDigest>,
-    /// How many bytes the blob or the upload has.
-    pub size: Option<u64>,
-}
-
-impl Said {
-    pub fn of(kind: Kind) -> Said {
-        Said {
-            kind,
-            at: None,
-            digest: None,
-            size: None,
-        }
-    }
-
-    pub fn of_upload(kind: Kind, at: UploadRef, size: Option<u64>) -> Said {
-        Said {
-            kind,
-            at: Some(at),
-            digest: None,
-            size,
-        }
-    }
-
-    pub fn of_blob(kind: Kind, digest: Option<BlobDigest>, size: Option<u64>) -> Said {
-        Said {
-            kind,
-            at: None,
-            digest,
-            size,
-        }
-    }
 }
 
 /// A request under a name at a moment, and its answer.
 #[derive(Clone, Copy)]
-pub struct Line {
-    pub name: &'static [u8],
+pub struct Line<'l> {
+    pub name: &'l [u8],
     pub now: u64,
-    pub word: Word,
-    pub told: Told,
+    pub word: Word<'l>,
+    pub told: Told<'l>,
 }
 
-/// A line under `lib/a` at the moment 0. A static's value calls no function, so a macro writes it.
+/// A line under a name at a moment: under `lib/a` and at 0 if none is said. A static's value calls no function.
 macro_rules! row {
-    ($word:expr, $told:expr $(,)?) => {
-        $crate::asks::Line {
-            name: b"lib/a",
-            now: 0,
-            word: $word,
-            told: $told,
-        }
+    ($word:expr, $told:expr) => {
+        row!(b"lib/a", 0, $word, $told)
     };
-}
-
-/// A line at the moment 0.
-macro_rules! under {
-    ($name:expr, $word:expr, $told:expr $(,)?) => {
+    ($name:expr, $now:expr, $word:expr, $told:expr) => {
         $crate::asks::Line {
             name: $name,
-            now: 0,
-            word: $word,
-            told: $told,
-        }
-    };
-}
-
-/// A line under `lib/a`.
-macro_rules! then {
-    ($now:expr, $word:expr, $told:expr $(,)?) => {
-        $crate::asks::Line {
-            name: b"lib/a",
             now: $now,
             word: $word,
             told: $told,
@@ -172,48 +67,153 @@ macro_rules! then {
 }
 
 pub(crate) use row;
-pub(crate) use then;
-pub(crate) use under;
 
-pub fn reference(at: At) -> UploadRef {
-    UploadRef::make(at.0, [0, 0, 0, 0, 0, 0, 0, 0, 0, 0, 0, at.1])
+/// The references of the first sessions, whose secrets are zero.
+pub const U1: &[u8] = b"00000001-0000-8000-8000-000000000000";
+
+pub const U2: &[u8] = b"00000002-0000-8000-8000-000000000000";
+
+pub const U3: &[u8] = b"00000003-0000-8000-8000-000000000000";
+
+/// Ends a test in which something doesn't hold, or in whose tables a row doesn't.
+pub fn check(rt: &impl Abort, holds: bool, row: usize, what: &str) {
+    assert!(rt; holds, "{row}: {what}");
 }
 
-/// A name that is known to be one.
-pub fn name(alloc: Global, text: &[u8]) -> Result<RepoName, Unmade> {
-    Ok(RepoName::read(alloc, text)?)
-}
-
-/// By what a body may be hashed as it comes.
-pub type Hashed = Option<Algorithm>;
-
-/// Each of them.
-pub static HASHES: [Hashed; 3] = [None, Some(Algorithm::Sha256), Some(Algorithm::Sha512)];
-
-/// A body that carries this hash.
-pub fn body_of(alloc: Global, hashed: Hashed, content: &[u8]) -> Result<Body, AllocError> {
-    body_in_pieces(alloc, hashed, content, content.len())
-}
-
-/// A body that is put together of pieces of so many bytes.
-pub fn body_in_pieces(
-    alloc: Global,
-    hashed: Hashed,
-    content: &[u8],
-    size: usize,
-) -> Result<Body, AllocError> {
-    let mut body = BodyBuilder::new(alloc, hashed);
-    for piece in content.chunks(size.max(1)) {
-        body.extend(&InPlace, piece)?;
+/// Limits of which some are small.
+pub fn limits(max_blob: u64, max_open: u32, max_idle: u64) -> Limits
+    requires blob { max_blob ≤ 2 ^ 40 }
+    requires least_open { 1 ≤ max_open }
+    requires most_open { max_open ≤ 1024 }
+    requires least_idle { 1 ≤ max_idle }
+    requires most_idle { max_idle ≤ 2 ^ 40 }
+    ensures { AreLawful result }
+{
+    Limits {
+        max_blob,
+        max_body: 2_147_483_648,
+        max_open,
+        max_idle,
     }
+}
+
+/// A name that is known to be one. One growth may be refused.
+pub fn name(alloc: Global, text: &[u8]) -> Result<RepoName, AllocError> {
+    match RepoName::read(alloc, text) {
+        Ok(name) => Ok(name),
+        Err(_) => RepoName::read(alloc, text).or(Err(AllocError)),
+    }
+}
+
+/// A digest that is known to be one.
+fn digest(text: &[u8]) -> Result<BlobDigest, AllocError> {
+    BlobDigest::read(text).ok_or(AllocError)
+}
+
+/// A reference that is known to be one.
+pub fn reference(text: &[u8]) -> Result<UploadRef, AllocError> {
+    UploadRef::read(text).ok_or(AllocError)
+}
+
+fn extent(text: &[u8]) -> Extent {
+    match ByteRange::read(text) {
+        Some(range) => Extent::Given(range),
+        None if text.is_empty() => Extent::Absent,
+        None => Extent::Bad,
+    }
+}
+
+/// A body that carries its SHA-256.
+fn body(alloc: Global, content: &[u8]) -> Result<Body, AllocError> {
+    let mut body = BodyBuilder::new(alloc, Some(Algorithm::Sha256));
+    body.extend(&InPlace, content)?;
     Ok(body.finish(&InPlace))
 }
 
-/// Whether the parts of a blob, one behind another, are this content.
-pub fn is_content(bytes: &BlobBytes, content: &[u8]) -> bool {
+/// The request of a line.
+pub fn ask_of(alloc: Global, line: &Line) -> Result<Ask, AllocError> {
+    let name = name(alloc, line.name)?;
+    match line.word {
+        Word::Base => Ok(Ask::Base),
+        Word::Judged(refusal) => Ok(Ask::Refused(refusal)),
+        Word::Get(text) => has(name, text, false),
+        Word::Head(text) => has(name, text, true),
+        Word::Open => Ok(Ask::Opening { name }),
+        Word::Single(text, content) => Ok(Ask::Single {
+            name,
+            digest: BlobDigest::read(text),
+            body: body(alloc, content)?,
+        }),
+        Word::Mount(text, source) => mount(alloc, name, text, source),
+        Word::Chunk(at, range, content) => Ok(Ask::Chunk {
+            name,
+            at: reference(at)?,
+            range: extent(range),
+            body: body(alloc, content)?,
+        }),
+        Word::Status(at) => Ok(Ask::Status {
+            name,
+            at: reference(at)?,
+        }),
+        Word::Close(at, range, text, content) => Ok(Ask::Close {
+            name,
+            at: reference(at)?,
+            range: extent(range),
+            digest: BlobDigest::read(text),
+            body: body(alloc, content)?,
+        }),
+    }
+}
+
+fn has(name: RepoName, text: &[u8], head: bool) -> Result<Ask, AllocError> {
+    let digest = digest(text)?;
+    Ok(Ask::Has { name, digest, head })
+}
+
+fn mount(alloc: Global, to: RepoName, text: &[u8], source: &[u8]) -> Result<Ask, AllocError> {
+    Ok(Ask::Mount {
+        name: to,
+        digest: digest(text)?,
+        source: name(alloc, source)?,
+    })
+}
+
+/// Whether an answer is what the line says, under the line's name.
+pub fn is_told(answer: &Answer, line: &Line) -> bool {
+    match (line.told, answer) {
+        (Told::Welcome, Answer::Base) => true,
+        (Told::Refused(told), Answer::Refused(refusal)) => told == *refusal,
+        (Told::Size(told), Answer::Blob { size, bytes, .. }) => told == *size && bytes.is_none(),
+        (Told::Bytes(content), Answer::Blob { bytes, .. }) => gives(bytes, content),
+        (Told::Begun(told), Answer::Begun { name, at }) => is_at(line, name, told, at),
+        (Told::Stored(told), Answer::Stored { name, digest }) => {
+            name.as_str().as_bytes() == line.name && digest.text().as_bytes() == told
+        }
+        (Told::Taken(told, size), Answer::Taken { name, at, next })
+        | (Told::Standing(told, size), Answer::Standing { name, at, next })
+        | (Told::Misplaced(told, size), Answer::Misplaced { name, at, next }) => {
+            is_at(line, name, told, at) && size == *next
+        }
+        _ => false,
+    }
+}
+
+/// Whether an answer tells this reference under the line's name.
+fn is_at(line: &Line, name: &RepoName, told: &[u8], at: &UploadRef) -> bool {
+    name.as_str().as_bytes() == line.name && at.text().as_slice() == told
+}
+
+/// Whether the stretches of a blob that was handed out, one after another, are this content.
+fn gives(bytes: &Option<BlobBytes>, content: &[u8]) -> bool {
+    let Some(bytes) = bytes else {
+        return false;
+    };
     let mut rest = content;
-    for part in bytes.parts() {
-        match rest.strip_prefix(part.as_slice()) {
+    for stretch in bytes.stretches() {
+        let Ok(stretch) = stretch.as_slice() else {
+            return false;
+        };
+        match rest.strip_prefix(stretch) {
             Some(later) => rest = later,
             None => return false,
         }
@@ -221,175 +221,28 @@ pub fn is_content(bytes: &BlobBytes, content: &[u8]) -> bool {
     rest.is_empty()
 }
 
-pub fn extent(place: Place) -> Extent {
-    match place {
-        Place::Absent => Extent::Absent,
-        Place::Bad => Extent::Bad,
-        Place::From(first, last) => match range(first, last) {
-            Some(range) => Extent::Given(range),
-            None => Extent::Bad,
-        },
-    }
-}
-
-fn range(first: u64, last: u64) -> Option<ByteRange> {
-    if first > 1_000_000_000_000_000_000 || last > 1_000_000_000_000_000_000 {
-        return None;
-    }
-    Some(ByteRange { first, last })
-}
-
-/// The request of a line. Its body, if it has one, carries a hash of that algorithm.
-pub fn ask_of(alloc: Global, hashed: Hashed, line: Line) -> Result<Ask, Unmade> {
-    let name = name(alloc, line.name)?;
-    match line.word {
-        Word::Base => Ok(Ask::Base),
-        Word::Refused(refusal) => Ok(Ask::Refused(refusal)),
-        Word::Get(digest) => has(name, digest, false),
-        Word::Head(digest) => has(name, digest, true),
-        Word::Open => Ok(Ask::Opening { name }),
-        Word::Single(digest, body) => single(name, digest, body_of(alloc, hashed, body)?),
-        Word::Mount(digest, source) => mount(alloc, name, digest, source),
-        Word::Chunk(at, place, body) => chunk(name, at, place, body_of(alloc, hashed, body)?),
-        Word::Status(at) => Ok(Ask::Status {
-            name,
-            at: reference(at),
-        }),
-        Word::Close(at, place, digest, body) => {
-            close(name, at, place, digest, body_of(alloc, hashed, body)?)
-        }
-    }
-}
-
-fn single(name: RepoName, digest: &[u8], body: Body) -> Result<Ask, Unmade> {
-    Ok(Ask::Single {
-        name,
-        digest: BlobDigest::read(digest),
-        body,
-    })
-}
-
-fn chunk(name: RepoName, at: At, place: Place, body: Body) -> Result<Ask, Unmade> {
-    Ok(Ask::Chunk {
-        name,
-        at: reference(at),
-        range: extent(place),
-        body,
-    })
-}
-
-fn close(name: RepoName, at: At, place: Place, digest: &[u8], body: Body) -> Result<Ask, Unmade> {
-    Ok(Ask::Close {
-        name,
-        at: reference(at),
-        range: extent(place),
-        digest: BlobDigest::read(digest),
-        body,
-    })
-}
-
-/// A digest that is known to be one.
-pub fn digest_of(text: &[u8]) -> Result<BlobDigest, Unmade> {
-    BlobDigest::read(text).ok_or(Unmade::NoDigest)
-}
-
-fn has(name: RepoName, digest: &[u8], head: bool) -> Result<Ask, Unmade> {
-    let digest = digest_of(digest)?;
-    Ok(Ask::Has { name, digest, head })
-}
-
-fn mount(alloc: Global, target: RepoName, digest: &[u8], source: &[u8]) -> Result<Ask, Unmade> {
-    let digest = digest_of(digest)?;
-    let source = name(alloc, source)?;
-    Ok(Ask::Mount {
-        name: target,
-        digest,
-        source,
-    })
-}
-
-pub fn said_of(answer: &Answer) -> Said {
+/// Whether an answer is what its line says; None if it is that memory is out.
+pub fn judge(answer: &Answer, line: &Line) -> Option<bool> {
     match answer {
-        Answer::Base => Said::of(Kind::Base),
-        Answer::Blob {
-            digest,
-            size,
-            bytes,
-        } => {
-            let kind = if bytes.is_some() {
-                Kind::Blob
-            } else {
-                Kind::Size
-            };
-            Said::of_blob(kind, Some(*digest), Some(*size))
-        }
-        Answer::Begun { at, .. } => Said::of_upload(Kind::Begun, *at, None),
-        Answer::Stored { digest, .. } => Said::of_blob(Kind::Stored, Some(*digest), None),
-        Answer::Taken { at, next, .. } => Said::of_upload(Kind::Taken, *at, Some(*next)),
-        Answer::Standing { at, next, .. } => Said::of_upload(Kind::Standing, *at, Some(*next)),
-        Answer::Misplaced { at, next, .. } => Said::of_upload(Kind::Misplaced, *at, Some(*next)),
-        Answer::Refused(refusal) => Said::of(Kind::Refused(*refusal)),
-        Answer::NoMemory => Said::of(Kind::NoMemory),
+        Answer::NoMemory => None,
+        _ => Some(is_told(answer, line)),
     }
 }
 
-/// The digest of the blob that is asked for.
-fn digest_asked(word: Word) -> Option<BlobDigest> {
-    match word {
-        Word::Get(digest) | Word::Head(digest) => BlobDigest::read(digest),
-        _ => None,
+/// The request of a line. One growth may be refused.
+fn ask_for(alloc: Global, line: &Line) -> Result<Ask, AllocError> {
+    match ask_of(alloc, line) {
+        Err(AllocError) => ask_of(alloc, line),
+        Ok(ask) => Ok(ask),
     }
 }
 
-/// What a line's answer says.
-fn said_by(line: Line) -> Said {
-    match line.told {
-        Told::Base => Said::of(Kind::Base),
-        Told::Bytes(content) => {
-            let size = content.len() as u64;
-            Said::of_blob(Kind::Blob, digest_asked(line.word), Some(size))
-        }
-        Told::Size(size) => Said::of_blob(Kind::Size, digest_asked(line.word), Some(size)),
-        Told::Begun(number) => Said::of_upload(Kind::Begun, reference(At(number, 0)), None),
-        Told::Stored(text) => Said::of_blob(Kind::Stored, BlobDigest::read(text), None),
-        Told::Taken(at, next) => Said::of_upload(Kind::Taken, reference(at), Some(next)),
-        Told::Standing(at, next) => Said::of_upload(Kind::Standing, reference(at), Some(next)),
-        Told::Misplaced(at, next) => Said::of_upload(Kind::Misplaced, reference(at), Some(next)),
-        Told::Refused(refusal) => Said::of(Kind::Refused(refusal)),
-    }
-}
-
-/// Whether an answer is what the line says, under the line's name.
-pub fn is_told(answer: &Answer, line: Line) -> bool {
-    said_of(answer) == said_by(line) && is_named(answer, line.name) && has_bytes(answer, line.told)
-}
-
-/// Whether an answer that has a name has this one.
-pub fn is_named(answer: &Answer, wanted: &[u8]) -> bool {
-    match answer {
-        Answer::Begun { name, .. }
-        | Answer::Stored { name, .. }
-        | Answer::Taken { name, .. }
-        | Answer::Standing { name, .. }
-        | Answer::Misplaced { name, .. } => name.as_str().as_bytes() == wanted,
-        Answer::Base | Answer::Blob { .. } | Answer::Refused(_) | Answer::NoMemory => true,
-    }
-}
-
-fn has_bytes(answer: &Answer, told: Told) -> bool {
-    match told {
-        Told::Bytes(content) => gives(answer, content),
-        _ => true,
-    }
-}
-
-/// Whether an answer hands out a blob of this content.
-pub fn gives(answer: &Answer, content: &[u8]) -> bool {
-    match answer {
-        Answer::Blob {
-            bytes: Some(bytes),
-            ..
-        } => is_content(bytes, content),
-        _ => false,
-    }
+/// Serves a line's request, and judges its answer.
+pub fn serve(
+    alloc: Global,
+    service: &mut Service,
+    line: &Line,
+) -> Result<Option<bool>, AllocError> {
+    let ask = ask_for(alloc, line)?;
+    Ok(judge(&service.step(ask, [0; 12], line.now), line))
 }

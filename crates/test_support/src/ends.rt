@@ -1,7 +1,7 @@
 //! A source and a sink over memory, which move so many bytes at a time.
 ghost use Rattle.std.specs.Prelude.{◌≡◌, ◌<◌, [], true, false, Some};
 
-use http_wire::{ByteSink, ByteSource, Failed, Transcript};
+use http_wire::{ByteSink, ByteSource, Excerpt, Failed, Transcript};
 
 /// Bytes in memory, given at most `step` at a time. After them comes the end, or a failure.
 #[derive(Drop)]
@@ -121,6 +121,13 @@ impl ByteSink for MemorySink {
             self.taken = self.taken.and(&buf[..count]);
             return Ok(count);
         }
+        self.failed_writes = self.failed_writes.saturating_add(1);
+        Err(Failed)
+    }
+
+    // What it holds is known, and what a file gives isn't.
+    fn write_excerpt(&mut self, _excerpt: &Excerpt<'_>) -> Result<usize, Failed> {
+        self.writes = self.writes.saturating_add(1);
         self.failed_writes = self.failed_writes.saturating_add(1);
         Err(Failed)
     }
