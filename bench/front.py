@@ -9,7 +9,7 @@ pulls it and compares. HAProxy asks for a login; both speak plain HTTP, so that 
 measured. `docker-registry` has its files in memory (/dev/shm), no login and no log. The clients are Python, in as many
 processes as there are cores, and share the machine with the servers: read the figures as ratios in one run.
 
-Needs Linux, HAProxy with lua-cjson, and docker-registry for its rows.
+Needs Linux, HAProxy, and docker-registry for its rows.
 """
 import argparse
 import collections

@@ -24,8 +24,6 @@
 -- (if at hand: else its text has them), how much is below it (`below`), the bytes that it takes (`size`), and which put
 -- it came with (`stamp`).
 
-local json = require("cjson.safe")
-
 local MIB = 1048576
 -- where the blobs are asked for without a login
 local BLOBS = "http://" .. os.getenv("FRONT_LOCAL")
@@ -33,15 +31,20 @@ local FOLDER = os.getenv("FRONT_LUA"):match("^.*/") or ""
 local KEPT_IN = os.getenv("FRONT_REDIS") and "manifests_in_redis.lua" or "manifests_in_memory.lua"
 -- seconds in which /health tells of a fault
 local TOLD = tonumber(os.getenv("FRONT_TOLD"))
+local read_json, key_of = dofile(FOLDER .. "json.lua"), dofile(FOLDER .. "keys.lua")
 -- bytes of all manifests and tags
-local store = dofile(FOLDER .. KEPT_IN)(tonumber(os.getenv("FRONT_HELD")) * MIB)
+local store = dofile(FOLDER .. KEPT_IN)(tonumber(os.getenv("FRONT_HELD")) * MIB, key_of)
+
+-- What is let go of stays in Lua's table of texts until it is collected, and what collides there is compared with it.
+-- By itself Lua would let so much gather as it holds.
+collectgarbage("setpause", 125)
 
 -- bytes of a manifest, and of its media type
 local LARGEST, LONGEST_TYPE = 4 * MIB, 255
 -- blobs and manifests that one manifest names, and that it has below it in all
 local MOST_NAMED, MOST_BELOW = 1000, 10000
--- opening brackets and commas in a manifest: about as many values are made of it
-local MOST_MARKS = 50000
+-- members of objects and values of lists in a manifest, and how many are read without a pause
+local MOST_VALUES, VALUES_AT_ONCE = 50000, 500
 -- Bytes of manifests that are being received, of all clients. Beyond that only those that have no more than so many go
 -- on.
 local MOST_RECEIVED, ALWAYS_RECEIVED = 32 * MIB, 16384
@@ -56,6 +59,10 @@ local MOST_REMEMBERED = 50000
 local PATIENCE = 150000
 -- the repository of the marks
 local MARKS = "blobd-marks"
+
+-- what a manifest is if its client doesn't say
+local MANIFEST_TYPE = "application/vnd.oci.image.manifest.v1+json"
+local INDEX_TYPE = "application/vnd.oci.image.index.v1+json"
 
 local DIGITS = {sha256 = 64, sha512 = 128}
 local BITS = {sha256 = 256, sha512 = 512}
@@ -95,88 +102,137 @@ end
 
 --- What a manifest may be
 
--- How many of these single characters the text has, counted no further than `most`.
-local function marks_in(text, characters, most)
-  local found = 0
-  for character in characters:gmatch(".") do
-    local at = text:find(character, 1, true)
-    while at and found <= most do
-      found = found + 1
-      at = text:find(character, at + 1, true)
-    end
-  end
-  return found
-end
+-- Lets other requests go on. A Lua that only yields is called again before HAProxy looks for them, 200 times.
+local function pause() core.msleep(1) end
 
 local function unreadable(message)
   refuse(400, "MANIFEST_INVALID", message)
 end
 
--- A member of a JSON object; one that is null is absent. Clients that read names without regard to case would take
--- another one for it.
-local function member(object, name)
-  local value = object[name]
-  for key in pairs(object) do
-    if type(key) == "string" and key ~= name and key:lower() == name then
-      unreadable("the member " .. key .. " is to be " .. name)
+-- What finds a member's name in any letters: clients that read names without regard to case would take one in others
+-- for it. To them the long s (U+017F) is an s.
+local function spellings_of(name)
+  return '^"' .. name:gsub("%a", function(letter)
+    local both = "[" .. letter:lower() .. letter:upper()
+    return letter:lower() == "s" and both .. "\197]\191?" or both .. "]"
+  end) .. '"'
+end
+
+local SPELLINGS = {}
+for _, name in ipairs({"schemaVersion", "config", "layers", "manifests", "digest", "urls"}) do
+  SPELLINGS[name] = spellings_of(name)
+end
+
+-- The name of those that `takes` has which a member has, if one of them. `seen` has those before it in its object.
+local function name_at(json, at, takes, seen)
+  local _, last = json.text:find('^"[^"\1]*', at)
+  if not json.is(last + 1, '"') then unreadable("a member's name has an escape") end
+  for name in pairs(takes) do
+    if json.text:find(SPELLINGS[name], at) then
+      if json.text:sub(at + 1, at + #name) ~= name then unreadable("a member is to be called " .. name) end
+      if seen[name] then unreadable("a member " .. name .. " is there twice") end
+      seen[name] = true
+      return name
     end
   end
-  if value ~= json.null then return value end
 end
 
--- Adds the digest of a descriptor to those found, once. A layer with addresses of its own is fetched there, and isn't
--- pushed.
-local function add_digest(found, descriptor, is_layer)
-  local digest = type(descriptor) == "table" and member(descriptor, "digest")
-  if type(digest) ~= "string" or not algorithm_of(digest) then unreadable("a descriptor has no digest") end
-  local urls = is_layer and member(descriptor, "urls")
-  if type(urls) == "table" and #urls > 0 or found[digest] then return end
-  found[digest] = true
-  found[#found + 1] = digest
+-- The place behind an object. `takes` has what goes through the values of some members; one that is null is absent.
+local function read_object(json, at, takes)
+  local seen = {}
+  return json.members(at, function(from, value)
+    local name = name_at(json, from, takes, seen)
+    if name and not json.is(value, "n") then return takes[name](value) end
+    return json.value(value)
+  end)
 end
 
-local function add_digests(found, list, are_layers)
-  if type(list) ~= "table" then unreadable("what is to be a list of descriptors isn't one") end
-  for key, descriptor in pairs(list) do
-    if math.type(key) ~= "integer" then unreadable("what is to be a list of descriptors is an object") end
-    add_digest(found, descriptor, are_layers)
+-- The digest that is quoted there, or nil.
+local function digest_at(json, at, behind)
+  for _, digits in pairs(DIGITS) do
+    -- no other text is made of what a client wrote
+    if behind - at == #"sha256:" + digits + 2 and json.is(at, '"') then
+      local digest = json.text:sub(at + 1, behind - 2)
+      return algorithm_of(digest) and digest
+    end
   end
 end
 
--- The digests alone, in their order.
-local function listed(found)
-  return table.move(found, 1, #found, 1, {})
+-- Goes through a descriptor, and adds its digest to those found, once. A layer with addresses of its own is fetched
+-- there, and isn't pushed.
+local function read_descriptor(json, at, found, is_layer)
+  local digest, is_elsewhere = nil, false
+  local takes = {digest = function(value)
+    local behind = json.value(value)
+    digest = digest_at(json, value, behind)
+    return behind
+  end}
+  if is_layer then
+    takes.urls = function(value)
+      if not json.is(value, "[") then return json.value(value) end
+      return json.items(value, function(url)
+        is_elsewhere = true
+        return json.value(url)
+      end)
+    end
+  end
+  local behind = json.is(at, "{") and read_object(json, at, takes)
+  if not digest then unreadable("a descriptor has no digest") end
+  local key = key_of(digest)
+  if not is_elsewhere and not found.keys[key] then
+    found.keys[key] = true
+    found.list[#found.list + 1] = digest
+    if #found.list > MOST_NAMED then
+      unreadable("the manifest names more than " .. MOST_NAMED .. " blobs and manifests")
+    end
+  end
+  return behind
 end
 
--- The blobs and the manifests that the text of a manifest names: all of them, whichever kind of manifest it is.
+local function read_descriptors(json, at, found, are_layers)
+  if not json.is(at, "[") then unreadable("what is to be a list of descriptors isn't one") end
+  return json.items(at, function(item) return read_descriptor(json, item, found, are_layers) end)
+end
+
+-- The blobs and the manifests that the text of a manifest names: all of them, whichever kind of manifest it is. And
+-- whether it is an index.
 local function named_in(body)
-  if marks_in(body, "[{,", MOST_MARKS) > MOST_MARKS then
-    refuse(413, "SIZE_INVALID", "the manifest has too many values")
-  end
-  -- cjson reads no further than this; and a name could hide from what is looked for below
-  if body:find("\0", 1, true) or body:find("\\u00[4-7]%x") then
-    unreadable("the manifest has a zero byte, or a letter that is written as an escape")
-  end
-  -- an object without a member is read as an empty list
-  if body:find('"layers"%s*:%s*{') or body:find('"manifests"%s*:%s*{') then
-    unreadable("what is to be a list of descriptors is an object")
-  end
-  local manifest = json.decode(body)
-  if type(manifest) ~= "table" or member(manifest, "schemaVersion") ~= 2 then
-    unreadable("not a manifest of schema version 2")
-  end
-  local blobs, manifests = {}, {}
-  local config, layers, named = member(manifest, "config"), member(manifest, "layers"), member(manifest, "manifests")
-  if not named and not (config and layers) then
+  local values = 0
+  local json = read_json(body, unreadable, function()
+    values = values + 1
+    if values > MOST_VALUES then refuse(413, "SIZE_INVALID", "the manifest has too many values") end
+    if values % VALUES_AT_ONCE == 0 then pause() end
+  end, pause)
+  local blobs, manifests, has = {keys = {}, list = {}}, {keys = {}, list = {}}, {}
+  if not json.is(json.first, "{") then unreadable("a manifest is a JSON object") end
+  local behind = read_object(json, json.first, {
+    schemaVersion = function(at)
+      local last = json.value(at)
+      has.version = json.is(at, "2") and last == at + 1
+      return last
+    end,
+    config = function(at)
+      has.config = true
+      return read_descriptor(json, at, blobs)
+    end,
+    layers = function(at)
+      has.layers = true
+      return read_descriptors(json, at, blobs, true)
+    end,
+    manifests = function(at)
+      has.manifests = true
+      return read_descriptors(json, at, manifests)
+    end,
+  })
+  if not json.finish(behind) then unreadable("more stands behind the manifest") end
+  if not has.version then unreadable("not a manifest of schema version 2") end
+  if not has.manifests and not (has.config and has.layers) then
     unreadable("a manifest has a config and layers, an index has manifests")
   end
-  if config then add_digest(blobs, config) end
-  if layers then add_digests(blobs, layers, true) end
-  if named then add_digests(manifests, named) end
-  if #blobs + #manifests > MOST_NAMED then
+  if #blobs.list + #manifests.list > MOST_NAMED then
     unreadable("the manifest names more than " .. MOST_NAMED .. " blobs and manifests")
   end
-  return listed(blobs), listed(manifests)
+  return blobs.list, manifests.list, has.manifests
 end
 
 --- Whether what a manifest names is there
@@ -184,12 +240,13 @@ end
 -- Values by texts, all of which are forgotten once there would be too many.
 local function new_memory()
   local values, number = {}, 0
-  return function(what) return values[what] end, function(what, value)
-    if values[what] == nil then
+  return function(what) return values[key_of(what)] end, function(what, value)
+    local key = key_of(what)
+    if values[key] == nil then
       if number >= MOST_REMEMBERED then values, number = {}, 0 end
       number = number + 1
     end
-    values[what] = value
+    values[key] = value
   end
 end
 
@@ -289,7 +346,16 @@ status_of_manifest = function(name, digest, mark)
   local _, record = store.find(name, digest, true, true)
   if not record then return 404 end
   local blobs, manifests = record.blobs, record.manifests
-  if not blobs then blobs, manifests = named_in(record.body) end
+  if not blobs then
+    local is_read, told, others = pcall(named_in, record.body)
+    if not is_read then
+      if type(told) ~= "table" then error(told, 0) end
+      -- Redis has one that wasn't taken here: it stays there, and isn't handed out
+      core.log(core.err, "no manifest: " .. name .. "@" .. digest .. ": " .. told.message)
+      return 404
+    end
+    blobs, manifests = told, others
+  end
   local status = status_of_named(name, blobs, manifests, mark)
   if status == 200 and mark then remember(what, mark) end
   if status == 404 then
@@ -324,12 +390,19 @@ local function has_room()
   return received() <= MOST_RECEIVED
 end
 
+-- Adds a part to a text that is held in parts, each at least as long as those behind it together. So there are few of
+-- them, however short those are that come: many short ones could collide in Lua's table of texts.
+local function add_part(parts, part)
+  while #parts > 0 and #parts[#parts] <= #part do part = table.remove(parts) .. part end
+  parts[#parts + 1] = part
+end
+
 -- The request's body. `receive` hands out less than it was asked for: only the empty text is the end.
 local function body_of(applet)
   local parts, size = {}, 0
   repeat
     local part = applet:receive(MIB)
-    parts[#parts + 1] = part
+    if part ~= "" then add_part(parts, part) end
     size = size + #part
     receiving[parts] = size
     if size > LARGEST then refuse(413, "SIZE_INVALID", "a manifest may have 4 MiB") end
@@ -342,10 +415,15 @@ local function body_of(applet)
   return body
 end
 
+-- The media type that the client names, without its parameters, if it names one. It has to be one of manifests and
+-- indexes: no browser takes what comes back for a page then.
 local function type_of(applet)
-  local kind = applet.headers["content-type"]
-  kind = kind and kind[0] or "application/octet-stream"
-  if #kind > LONGEST_TYPE then unreadable("the Content-Type is too long") end
+  local kind = applet:get_var("txn.type")
+  if not kind then return nil end
+  kind = kind:match("^[^;%s]*"):lower()
+  if #kind > LONGEST_TYPE or not kind:find("^application/vnd%.[%w!#$&^_.+-]+%+json$") then
+    unreadable("the Content-Type is no manifest's")
+  end
   return kind
 end
 
@@ -353,7 +431,7 @@ local function put(applet, name, reference, algorithm)
   local kind, body = type_of(applet), body_of(applet)
   local digest = digest_of(applet, algorithm or "sha256", body)
   if algorithm and reference ~= digest then refuse(400, "DIGEST_INVALID", "the manifest has another digest") end
-  local blobs, manifests = named_in(body)
+  local blobs, manifests, is_index = named_in(body)
   local below = store.below(name, manifests)
   if not below then
     refuse(404, "MANIFEST_BLOB_UNKNOWN", "the repository doesn't have all manifests that the index names")
@@ -361,7 +439,8 @@ local function put(applet, name, reference, algorithm)
   below = below + #blobs + #manifests
   if below > MOST_BELOW then unreadable("the index has more than " .. MOST_BELOW .. " blobs and manifests below it") end
   local record = {
-    body = body, type = kind, blobs = blobs, manifests = manifests, below = below, stamp = new_text(), length = #body,
+    body = body, type = kind or is_index and INDEX_TYPE or MANIFEST_TYPE, blobs = blobs, manifests = manifests,
+    below = below, stamp = new_text(), length = #body,
     size = #body + DIGEST_SIZE * (#blobs + #manifests) + OVERHEAD,
   }
   local mark = mark_of(applet, name)
@@ -501,6 +580,9 @@ local function serve(applet)
   work(applet, name, reference, algorithm)
 end
 
+-- no code and no message has a character that JSON escapes
+local ERROR = '{"errors":[{"code":"%s","message":"%s"}]}'
+
 -- The last fault of what keeps the manifests, and its second.
 local last_fault, faulted = nil, 0
 
@@ -514,7 +596,7 @@ core.register_service("manifests", "http", function(applet)
   if refusal.fault then last_fault, faulted = refusal.fault, core.now().sec end
   local fields = refusal.fields or {}
   fields["Content-Type"] = "application/json"
-  answer(applet, refusal.status, fields, json.encode({errors = {{code = refusal.code, message = refusal.message}}}))
+  answer(applet, refusal.status, fields, ERROR:format(refusal.code, refusal.message))
 end)
 
 dofile(FOLDER .. "health.lua")(store, function()

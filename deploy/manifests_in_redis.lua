@@ -24,16 +24,6 @@ if not at or redis.call("EXISTS", "manifest:" .. at) == 0 then return false end
 return {digest, unpack(redis.call("HMGET", "manifest:" .. at, "type", "stamp", "length"))}
 ]]
 
-local BELOW = [[
-local sum = 0
-for at = 2, #ARGV do
-  local below = redis.call("HGET", "manifest:" .. ARGV[1] .. "@" .. ARGV[at], "below")
-  if not below then return false end
-  sum = sum + below
-end
-return sum
-]]
-
 local PUT = [[
 local name, digest, kind, stamp, size, below, body, tag, most, overhead = unpack(ARGV, 1, 10)
 local at = name .. "@" .. digest
@@ -62,30 +52,41 @@ redis.call("ZADD", "repositories", 0, name)
 return "kept"
 ]]
 
+-- Redis's Lua has all texts in one table, and hashes them without a secret. So a script that goes through many of them
+-- holds a hundred at a time: Redis itself has those that are left to drop.
 local DROP = [[
 local name, first, stamp, overhead = unpack(ARGV)
 local is = redis.call("HGET", "manifest:" .. name .. "@" .. first, "stamp")
 if not is or stamp ~= "" and is ~= stamp then return 0 end
-local left = {first}
-while #left > 0 do
-  local digest = table.remove(left)
+local held = 0
+local function take(set, work)
+  repeat
+    local members = redis.call("SPOP", set, 100)
+    for _, member in ipairs(members) do work(member) end
+    held = held + #members
+    if held > 1000 then
+      collectgarbage()
+      held = 0
+    end
+  until #members == 0
+end
+redis.call("SADD", "dropping", first)
+take("dropping", function(digest)
   local at = name .. "@" .. digest
   local freed = redis.call("HGET", "manifest:" .. at, "size")
   if freed then
-    for _, tag in ipairs(redis.call("SMEMBERS", "tagged:" .. at)) do
+    take("tagged:" .. at, function(tag)
       redis.call("HDEL", "digest:" .. name, tag)
       redis.call("ZREM", "tags:" .. name, tag)
       freed = freed + #tag + overhead
-    end
-    for _, above in ipairs(redis.call("SMEMBERS", "above:" .. at)) do left[#left + 1] = above end
-    for _, named in ipairs(redis.call("SMEMBERS", "names:" .. at)) do
-      redis.call("SREM", "above:" .. name .. "@" .. named, digest)
-    end
-    redis.call("DEL", "manifest:" .. at, "body:" .. at, "tagged:" .. at, "names:" .. at, "above:" .. at)
+    end)
+    take("above:" .. at, function(above) redis.call("SADD", "dropping", above) end)
+    take("names:" .. at, function(named) redis.call("SREM", "above:" .. name .. "@" .. named, digest) end)
+    redis.call("DEL", "manifest:" .. at, "body:" .. at)
     redis.call("SREM", "manifests:" .. name, digest)
     redis.call("DECRBY", "held", freed)
   end
-end
+end)
 if redis.call("EXISTS", "manifests:" .. name) == 0 then redis.call("ZREM", "repositories", name) end
 return 1
 ]]
@@ -214,7 +215,15 @@ return function(most_held)
     end,
     below = function(name, digests)
       if #digests == 0 then return 0 end
-      return run(BELOW, name, table.unpack(digests)) or nil
+      return connected(function(ask)
+        local sum = 0
+        for _, digest in ipairs(digests) do
+          local below = ask("HGET", "manifest:" .. name .. "@" .. digest, "below")
+          if not below then return nil end
+          sum = sum + math.tointeger(tonumber(below))
+        end
+        return sum
+      end)
     end,
     put = function(name, digest, record, tag)
       return run(

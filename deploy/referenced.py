@@ -4,8 +4,9 @@ takes it.
 
     referenced.py ADDRESS > FILE
 
-ADDRESS is that of the Redis that keeps the manifests; FRONT_REDIS_PASSWORD has its password. If it can't be asked, or a
-manifest can't be read, the exit status is 1, and nothing is printed: the list wouldn't be whole.
+ADDRESS is that of the Redis that keeps the manifests; FRONT_REDIS_PASSWORD has its password. If it can't be asked, the
+exit status is 1, and nothing is printed: the list wouldn't be whole. A manifest that can't be read is named on standard
+error, and refers to whatever its text has of the form of a digest.
 """
 import json
 import os
@@ -65,6 +66,21 @@ class Redis:
         return [self.reply() for _ in range(size)]
 
 
+def read(body):
+    """What a text of JSON says (RFC 8259, as json.lua has it), but for its numbers: none is too long."""
+
+    def refuse(word):
+        raise ValueError(f"{word} is no JSON")
+
+    return json.loads(body.decode(), parse_int=str, parse_float=str, parse_constant=refuse)
+
+
+def unescaped(body):
+    """A text with the letters that it has as escapes."""
+    text = body.decode("latin-1").replace("\\/", "/")
+    return re.sub(r"\\u00([0-7][0-9a-fA-F])", lambda found: chr(int(found[1], 16)), text)
+
+
 def digests_in(value):
     """All digests that a manifest has, wherever they stand in it."""
     if isinstance(value, dict):
@@ -78,6 +94,17 @@ def digests_in(value):
         yield from digests_in(part)
 
 
+def referred(name, digest, body):
+    """The digests that a manifest refers to."""
+    try:
+        return set(digests_in(read(body)))
+    except (ValueError, RecursionError) as fault:
+        kept = set(DIGEST.findall(unescaped(body)))
+        told = f"{name.decode()}@{digest.decode()} can't be read: {fault}"
+        print(f"referenced.py: {told}; the {len(kept)} digests in it are kept", file=sys.stderr)
+        return kept
+
+
 def referenced(redis):
     """The pairs of a repository and a digest that its manifests have."""
     for name in redis.ask("ZRANGE", "repositories", "0", "-1"):
@@ -86,7 +113,7 @@ def referenced(redis):
             body = redis.ask("GET", b"body:" + name + b"@" + digest)
             # one that was deleted meanwhile refers to nothing
             if body is not None:
-                found.update(digests_in(json.loads(body)))
+                found |= referred(name, digest, body)
         for digest in sorted(found):
             yield name.decode(), digest
 
@@ -97,7 +124,7 @@ def main(address):
         lines = [f"{name} {digest}\n" for name, digest in referenced(redis)]
         sys.stdout.write("".join(lines))
         sys.stdout.flush()
-    except (OSError, Refused, ValueError, RecursionError) as error:
+    except (OSError, Refused, ValueError) as error:
         sys.exit(f"referenced.py: {error}")
 
 

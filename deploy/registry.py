@@ -19,7 +19,7 @@ import time
 import images
 import servers
 
-NEEDED = ["haproxy", "lua-cjson", "openssl"]
+NEEDED = ["haproxy", "openssl"]
 TLS = os.environ.get("FRONT_TLS", "127.0.0.1:5443")
 BLOBD = os.environ.get("BLOBD_1", "127.0.0.1:5001")
 # connections that the service serves at a time

@@ -6,7 +6,6 @@ program that started it is killed.
 import contextlib
 import ctypes
 import errno
-import glob
 import ipaddress
 import math
 import os
@@ -37,7 +36,7 @@ FREE_PORTS = 10_000, 32_768
 given = set()
 
 # How to see that a package of Debian's is there that isn't named as its program is.
-PACKAGES = {"lua-cjson": lambda: glob.glob("/usr/lib/*/lua/5.*/cjson.so"), "nginx-light": lambda: program("nginx")}
+PACKAGES = {"nginx-light": lambda: program("nginx")}
 
 
 def program(name):

@@ -13,7 +13,7 @@ import time
 from harness import TOP
 from harness.listeners import Scripted
 from harness.registry import LOGIN, PROXY, Client, Site, servers
-from harness.running import already, finished, push, pushed, written
+from harness.running import already, finished, push, pushed, run, written
 from harness.suite import OPTIONS, case, check, equal, main
 from harness.wire import PATIENCE, address_of
 
@@ -152,15 +152,15 @@ def an_address_that_another_adapter_has(folder):
 
 @case(*PROXY)
 def a_wait_of_the_adapter_is_told():
-    """A registry that takes a connection and says nothing: within five seconds it is told what is waited for."""
+    """A registry that takes a connection and says nothing: seconds before the end it is told what is waited for."""
     with socket.create_server(("127.0.0.1", 0), backlog=50) as listener:
         registry = address_of(listener)
         words = [sys.executable, SCRIPT, f"http://{registry}", "--at", servers.free_address()]
-        begun = time.monotonic()
         with subprocess.Popen(words, stderr=subprocess.PIPE, text=True) as waiting:
             equal("what is told", waiting.stderr.readline(), f"waits for {registry}\n")
-            check("in time", time.monotonic() - begun < 5, time.monotonic() - begun)
+            begun = time.monotonic()
             rest = waiting.stderr.read()
+            check("in time", time.monotonic() - begun > 2, time.monotonic() - begun)
             equal("why it ends", rest.split(", ")[0], f"can't push to {registry}: it takes a connection")
             equal("how it ends", waiting.wait(timeout=PATIENCE), 1)
 
@@ -170,13 +170,15 @@ def a_push_through_the_adapter_to_nobody(folder):
     """It says what it waits for, and names no certificate where there is none."""
     path = written(folder, CONTENT)
     with servers.Adapter(folder, servers.free_address()) as one:
-        ran = finished([OPTIONS.program, "push", one.address, "lib/none", path])
-        equal("its line", (ran.stdout, ran.returncode), ("refused: out of tries\n", 1))
-        wait, *rest = ran.stderr.splitlines()
+        # HAProxy tries for three seconds before it answers: a push whose time passed faster would give up before that
+        line, status, told = run("push", one.address, "lib/none", path)
+        equal("its line", (line, status), ("refused: out of tries\n", 1))
+        # on a busy machine an answer may take longer, which is told too
+        wait, *rest = [one_line for one_line in told.splitlines() if "which says nothing" not in one_line]
         equal("what it waits for", wait, f"blobd: waits for {one.address}, which answers 503")
         why = "the server answers 503: the registry behind the adapter takes no connection (tried 7 times)"
         equal("why it ended", rest, [f"blobd: can't push to {one.address}: {why}"])
 
 
 if __name__ == "__main__":
-    main(__doc__)
+    main(__doc__, side_by_side=True)

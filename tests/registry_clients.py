@@ -150,6 +150,8 @@ def nginx_asks_for_logins():
             equal(f"a login through nginx as {who}", reply.status, status)
             if status == 401:
                 is_refused(f"through nginx to {who}", reply, 401, "UNAUTHORIZED", "log in")
+            told = reply.fields.get_all("X-Content-Type-Options"), reply.fields.get_all("Content-Security-Policy")
+            equal(f"it is no page, as {who}", told, (["nosniff"], ["sandbox"]))
             is_asked = status == 200 or "Basic" in (reply.fields["WWW-Authenticate"] or "")
             check(f"a challenge through nginx to {who}", is_asked, reply)
         with site.slow_client(wrong) as client:

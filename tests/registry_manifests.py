@@ -10,13 +10,19 @@ import functools
 import http.client
 import itertools
 import json
+import os
+import random
+import re
 import signal
+import sys
 
+from harness import TOP
 from harness.registry import KIB, PROXY, Repository, Site, descriptor, is_refused, manifest_of, refusal_of
-from harness.running import MIB, Repeated, becomes
+from harness.running import MIB, Repeated, becomes, finished
 from harness.suite import case, check, equal, main
 from harness.wire import is_silent, sha256, sha512
 import images
+import referenced
 import servers
 
 INDEX_TYPE = "application/vnd.oci.image.index.v1+json"
@@ -182,7 +188,93 @@ def manifests_have_bounds(site):
     equal("an index with too much below it", kept.put("wide", index_of(*indexes)), INVALID)
 
 
+# Pieces of texts that are JSON, and of some that aren't.
+PIECES = r"""
+{ } [ ] , : " \ / u 0 1 9 -0 01 00 1. .5 -.5 1.5 1e5 1E+5 1e 1e-07 1.e1 +1 - 0x10 1_0 NaN Infinity -Infinity nan null
+true false True nul "" "a" "\"" "\\" "\/" "\u0041" "\u00e9" "\ud800" "\u12" "\x41" "\'" 'a' "\u004g" "digest"
+{"digest":1} {"a":1} {"a":1,} {a:1} {"a"} {1:2} [1,2] [1,] [,1] [1 2] [[[]]] [{}] // /**/ #
+""".split() + ["9" * 5000, "-" + "9" * 500 + "." + "9" * 500]
+ODD = "\t\n\r\v\f\0\x1f\x7f\u00a0\u2028\ufeff\u00e9\uac00\U0010ffff\u0661 "
+PIECES += [*ODD, *(f'"{character}"' for character in ODD)]
+BYTES = [b"\xff", b"\xc0\x80", b"\xed\xa0\x80", b"\xf4\x90\x80\x80", b"\xc3", b"\x80", b"\xe9", b'"\xff"']
+
+
+def texts_near_json(chance):
+    """Texts without end of which some are JSON."""
+    values = [piece.encode() for piece in PIECES]
+    while True:
+        text = chance.choice(values)
+        for _ in range(chance.choice([0, 0, 1, 2, 4, 8])):
+            other = chance.choice(values)
+            wrapped = b"[%b,%b]" % (text, other), b'{"a":%b,"b":%b}' % (text, other), b"[%b]" % text, b" %b\n" % text
+            text = chance.choice(wrapped)
+        if chance.random() < 0.5:
+            at = chance.randrange(len(text) + 1)
+            text = text[:at] + chance.choice([*values, *BYTES, b""]) + text[at + chance.randrange(2) :]
+        yield text
+
+
+def read_strictly(text):
+    """What a text of JSON says, by Python's reader where that is strict. Its objects are lists of pairs."""
+
+    def refuse(word):
+        raise ValueError(word)
+
+    options = {"parse_int": str, "parse_float": str, "parse_constant": refuse}
+    try:
+        return json.loads(text.decode(), object_pairs_hook=list, **options)
+    except ValueError:
+        return None
+
+
+def only_json_is_taken(site, count):
+    """A manifest is taken exactly if it is JSON."""
+    kept = Repository(site, "lib/json")
+    kept.push(b"{}")
+    config, counts = json.dumps(descriptor(b"{}")).encode(), {True: 0, False: 0}
+    for text in itertools.islice(texts_near_json(random.Random(count)), count):
+        body = b'{"schemaVersion":2,"config":%b,"layers":[],"x":%b}' % (config, text)
+        read = read_strictly(body)
+        if read is not None and [name for name, _ in read] != ["schemaVersion", "config", "layers", "x"]:
+            continue
+        counts[read is not None] += 1
+        wanted = INVALID if read is None else (201, sha256(body))
+        equal(f"a text near JSON: {text[:200]}", kept.put("text", body), wanted)
+    check("there are some of both", min(counts.values()) > count // 10, counts)
+    for depth, wanted in ((99, 201), (100, 400), (10**6, 400)):
+        body = b'{"schemaVersion":2,"config":%b,"layers":[],"x":%b%b}' % (config, b"[" * depth, b"]" * depth)
+        equal(f"lists {depth} deep", kept.put("deep", body)[0], wanted)
+
+
+def spelled_members(chance):
+    """Manifests with a member in other letters, with an escape, or twice, that some client would take for it."""
+    config, layer = json.dumps(descriptor(b"{}")), json.dumps(descriptor(b"layer"))
+    manifest = '{"schemaVersion":2,"config":%s,"layers":[%s]}' % (config, layer)
+    for name in "schemaVersion", "config", "layers", "digest", "manifests", "urls":
+        for _ in range(8):
+            at = chance.randrange(len(name))
+            odd = chance.choice([name[at].swapcase(), "\\u%04x" % ord(name[at]), "\\u%04X" % ord(name[at].swapcase())])
+            others = [name[:at] + odd + name[at + 1 :], name.upper(), name.replace("s", "\u017f")]
+            spelled = chance.choice([other for other in others if other != name])
+            value = chance.choice(["2", "[]", "{}", '"x"', config, "null"])
+            member = f'"{spelled}":{value}'
+            into = layer if name in ("digest", "urls") else manifest
+            yield manifest.replace(into, chance.choice([f"{{{member},{into[1:]}", f"{into[:-1]},{member}}}"]))
+    for member in re.findall(r'"\w+":', manifest):
+        if member not in ('"mediaType":', '"size":'):
+            yield manifest.replace(member, f'{member}null,{member}', 1)
+
+
+def members_have_one_reading(site):
+    kept = Repository(site, "lib/spelled")
+    kept.push(b"{}", b"layer")
+    for text in spelled_members(random.Random(4)):
+        equal(f"a manifest that is read in two ways: {text}", kept.put("odd", text.encode()), INVALID)
+
+
 def all_of_manifests(site):
+    only_json_is_taken(site, 150)
+    members_have_one_reading(site)
     manifests_are_kept(site)
     only_manifests_are_taken(site)
     tags_and_indexes_are_kept(site)
@@ -319,6 +411,45 @@ def manifests_outlive_haproxy(folder):
             tag, _ = puts.kept[0]
             gone = durable.get(tag)
             check("a manifest whose blobs are gone goes", gone == 404 and tag not in all_tags(durable), gone)
+
+
+def listed_by(redis):
+    """The status of the script that lists what manifests refer to, the lines, and what it says beside them."""
+    words = [sys.executable, os.path.join(TOP, "deploy", "referenced.py"), redis.address]
+    ran = finished(words, env={"FRONT_REDIS_PASSWORD": "secret"})
+    return ran.returncode, set(ran.stdout.splitlines()), ran.stderr.splitlines()
+
+
+def damaged(body, chance):
+    """A manifest that isn't JSON any more, in which each digest still stands, perhaps with escapes."""
+    text = re.sub(rb"[sh]", lambda found: b"\\u%04x" % found[0][0] if chance.random() < 0.3 else found[0], body)
+    version = chance.choice([b"007", b"NaN", b"1.", b"[" * 2000 + b"]" * 2000])
+    spoiled = [text + b"}", b"\xff" + text, b"\xef\xbb\xbf" + text, text.replace(b"{", b"{,", 1), text[:-1]]
+    return chance.choice([*spoiled, text.replace(b": 2", b": " + version, 1)])
+
+
+@case(*PROXY, "redis-server")
+def every_manifest_is_read(folder):
+    """Whatever manifests are taken, what they refer to can be listed; and a manifest that can't be read, however it
+    came to be there, is named, ends no list, and loses no blob."""
+    chance = random.Random(7)
+    with servers.Redis(folder, "secret") as redis:
+        with Site(more={"FRONT_REDIS": redis.address, "FRONT_REDIS_PASSWORD": "secret"}) as site:
+            only_json_is_taken(site, 400)
+            equal("all are read", listed_by(redis), (0, {f"lib/json {sha256(b'{}')}"}, []))
+            kept, store = Repository(site, "lib/damaged"), referenced.Redis(redis.address, "secret")
+            kept.push(b"{}", b"first", b"second")
+            bodies = {sha256(body): body for body in (manifest_of(b"{}", one) for one in (b"first", b"second"))}
+            equal("two manifests", [kept.put(digest, body)[0] for digest, body in bodies.items()], [201, 201])
+            whole = listed_by(redis)
+            for turn in range(20):
+                digest, body = chance.choice(list(bodies.items()))
+                store.ask("SET", f"body:lib/damaged@{digest}", damaged(body, chance))
+                status, lines, told = listed_by(redis)
+                equal(f"what is listed, turn {turn}", (status, lines), whole[:2])
+                are_named = len(told) == 1 and f"lib/damaged@{digest}" in told[0]
+                check(f"it is named, turn {turn}", are_named, told)
+                store.ask("SET", f"body:lib/damaged@{digest}", body)
 
 
 if __name__ == "__main__":

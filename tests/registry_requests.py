@@ -5,17 +5,21 @@ when 100 is sent, uploads that are cancelled, and certificates that are renewed.
     registry_requests.py PROGRAM
 """
 import contextlib
+import http.client
 import os
+import random
+import re
 import ssl
 import tempfile
 import time
 import warnings
 
 from harness.listeners import Listener
-from harness.registry import IMAGE_PUSHED, LOGIN, PROXY, Client, Site, is_refused, push_image
+from harness.registry import IMAGE_PUSHED, LOGIN, PROXY, Client, Repository, Site, is_refused, manifest_of, push_image
 from harness.running import MIB
 from harness.suite import case, check, equal, main
 from harness.wire import connected, sha256
+import images
 import servers
 
 WRONG = ("alice", "wrong")
@@ -139,6 +143,133 @@ def uploads_are_cancelled():
         equal("one of another repository isn't", client.ask("DELETE", elsewhere).status, 404)
         equal("and goes on", client.ask("PATCH", place, b"chunk").status, 202)
         equal("the shard itself has no DELETE", shard.ask("DELETE", place, Connection="close").status, 405)
+
+
+def forms_of(place):
+    """The forms that a reference has in a path, beside the usual one."""
+    home, reference = place.rsplit("/", 1)
+    plain = reference.replace("-", "")
+    forms = [reference.upper(), plain, plain.upper(), "{%s}" % reference, "{%s}" % reference.upper()]
+    return [f"{home}/{form}" for form in [*forms, f"urn:uuid:{reference}", f"urn:uuid:{reference.upper()}"]]
+
+
+def odd_fields(chance):
+    """Fields by which a request may be refused before anybody looks at its upload."""
+    count = chance.choice([0, 1, 55, 60, 65, 70, 90])
+    fields = [(f"X-{number}", "x" * chance.choice([1, 100])) for number in range(count)]
+    others = [
+        ("Content-Range", "5-9"), ("Content-Range", "0-2"), ("Content-Range", "x"), ("Content-Length", "0"),
+        ("Transfer-Encoding", "chunked"), ("Content-Length", "00003"), ("Expect", "100-continue"), ("X-Shard", "7"),
+        ("Connection", "close"), ("Content-Type", "text/html"), ("Accept", "x" * 9000),
+    ]
+    return fields + chance.sample(others, chance.randrange(4))
+
+
+def cancelled_oddly(site, client, place, chance):
+    """The status of a DELETE with fields of all kinds, or nothing if there is no reply."""
+    asker = Client(site.haproxy.plain)
+    asker.fields = [*client.fields, *odd_fields(chance)]
+    with asker, contextlib.suppress(OSError, http.client.HTTPException):
+        query = chance.choice(["", "", f"?digest={sha256(b'abc')}", "?digest=x", "?x"])
+        asker.send_head("DELETE", place + query)
+        names = {name for name, _ in asker.fields}
+        if "Transfer-Encoding" in names:
+            asker.send(chance.choice([b"0\r\n\r\n", b"3\r\nabc\r\n0\r\n\r\n", b"x\r\n"]))
+        elif ("Content-Length", "00003") in asker.fields:
+            asker.send(b"abc")
+        asker.socket.settimeout(20)
+        return asker.reply("DELETE").status
+
+
+@case(*PROXY)
+def only_ones_own_uploads_are_cancelled(folder):
+    """Whatever DELETE somebody sends under his own repository, an upload of another one is there. And if a cancel is
+    answered 204, the upload is hidden, in each form of its reference; if it isn't, it goes on."""
+    chance, rights = random.Random(5), os.path.join(folder, "rights")
+    with open(rights, "w", encoding="ascii") as file:
+        file.write("alice/alice\nbob/bob\n")
+    with Site(more={"FRONT_RIGHTS": rights}, users={"bob": "builds"}, workers=8) as site:
+        alice, bob, told = site.client(), site.client(("bob", "builds")), []
+        theirs = alice.opened("alice/app")
+        equal("a chunk", alice.ask("PATCH", theirs, b"abc").status, 202)
+        for turn in range(60):
+            place = bob.opened("bob/app")
+            has_bytes = chance.random() < 0.7
+            if has_bytes:
+                equal("a chunk of one's own", bob.ask("PATCH", place, b"abc").status, 202)
+            under = chance.choice(["bob/app", "bob/alice/app"])
+            stolen = chance.choice([theirs, *forms_of(theirs)]).replace("alice/app", under)
+            status = cancelled_oddly(site, bob, stolen, chance)
+            check(f"another one's isn't cancelled, turn {turn}", status != 204, status)
+            status = cancelled_oddly(site, bob, chance.choice([place, *forms_of(place)]), chance)
+            told.append(status)
+            left = {bob.ask("GET", form).status for form in [place, *forms_of(place)]}
+            equal(f"one's own behind a {status}, turn {turn}", left, {404} if status == 204 else {204})
+            if status != 204:
+                equal(f"it is cancelled, turn {turn}", bob.ask("DELETE", place).status, 204)
+            found = {alice.ask("GET", form).fields["Range"] for form in [theirs, *forms_of(theirs)]}
+            equal(f"another one's is there, turn {turn}", found, {"0-2"})
+        check("some are cancelled, and some not", 5 < told.count(204) < 55, told)
+
+
+def random_type(chance):
+    """What a Content-Type may say, of all kinds."""
+    trees = ["application/vnd.", "application/", "text/", "image/", "application/vnd", "Application/VND.", "vnd.", ""]
+    names = ["oci.image.manifest.v1", "docker.distribution.manifest.v2", "html", "x", "", "a b", "a<b", "oci/x", "a;b"]
+    ends = ["+json", "", "+xml", "+json; charset=utf-8", "+json;a", "+json, text/html", "json", "+json text", "+JSON"]
+    return chance.choice(trees) + chance.choice(names) + chance.choice(ends)
+
+
+@case(*PROXY)
+def only_types_of_manifests_are_taken():
+    """Whatever type a manifest is put with, none comes back that a browser shows."""
+    chance = random.Random(6)
+    with Site() as site:
+        kept, manifest, taken = Repository(site, "lib/types"), manifest_of(b"{}"), set()
+        kept.push(b"{}")
+        for kind in (images.MANIFEST, images.MANIFEST + "; charset=utf-8", "application/vnd.any+json"):
+            equal(f"a manifest as {kind}", kept.put("one", manifest, kind)[0], 201)
+        for kind in ("text/html", "application/json", "image/svg+xml", "application/octet-stream", "*/*"):
+            equal(f"a manifest as {kind}", kept.put("one", manifest, kind), (400, "MANIFEST_INVALID"))
+        for _ in range(200):
+            kind = random_type(chance)
+            status, _ = kept.put("one", manifest, kind)
+            told = kept.client.ask("GET", f"{kept.home}/manifests/one").fields["Content-Type"]
+            taken.add((status, told))
+            check(f"what is put as {kind!r}", re.fullmatch(r"application/vnd\.[^\s;,<]+\+json", told), told)
+        check("some are taken, and some not", {status for status, _ in taken} == {201, 400}, taken)
+        index = b'{"schemaVersion":2,"manifests":[]}'
+        for body, kind in ((manifest, images.MANIFEST), (index, images.MANIFEST.replace("manifest", "index"))):
+            equal("one without a type", kept.client.ask("PUT", f"{kept.home}/manifests/plain", body).status, 201)
+            told = kept.client.ask("GET", f"{kept.home}/manifests/plain").fields["Content-Type"]
+            equal("is what it is", told, kind)
+
+
+@case(*PROXY)
+def no_reply_is_a_page():
+    """Each reply of whatever kind says that a browser is to guess no type, and to run nothing of it."""
+    chance = random.Random(8)
+    with Site() as site:
+        client = site.client()
+        equal("an image", push_image(client, "lib/app"), IMAGE_PUSHED)
+        place, blob = client.opened("lib/app"), f"/v2/lib/app/blobs/{sha256(b'{}')}"
+        within = ["tags/list", "manifests/one", "manifests/none", "blobs/uploads/"]
+        targets = [f"/v2/lib/app/{part}" for part in within] + [blob, blob[:-1], place]
+        targets += ["/", "/v2/", "/v2/_catalog", "/v2/lib/none/tags/list", "/login", "/x"]
+        methods = ["GET", "HEAD", "PUT", "POST", "PATCH", "DELETE", "OPTIONS", "TRACE", "ODD"]
+        statuses = set()
+        for _ in range(300):
+            asker = site.client(chance.choice([LOGIN, LOGIN, LOGIN, WRONG, None]))
+            body = chance.choice([b"", b"", b"x", manifest_of(b"{}")])
+            with asker:
+                heard = asker.ask(method := chance.choice(methods), target := chance.choice(targets), body)
+            statuses.add(heard.status)
+            told = heard.fields["X-Content-Type-Options"], heard.fields["Content-Security-Policy"]
+            equal(f"{method} {target}: {heard.status}", told, ("nosniff", "sandbox"))
+        check("replies of many kinds", {200, 201, 202, 204, 400, 401, 404, 405} <= statuses, statuses)
+        for target in "/", "/health", "/metrics", "/x":
+            told = Client(site.haproxy.status).ask("GET", target).fields["X-Content-Type-Options"]
+            equal(f"{target} of its own", told, "nosniff")
 
 
 @case(*PROXY)

@@ -88,8 +88,10 @@ def torn(content, calls, dice):
         return content
     at, written = dice.choice(writes)
     sector = dice.randrange(at // SECTOR, (at + len(written) - 1) // SECTOR + 1) * SECTOR
-    spoiled = content[sector : sector + SECTOR]
-    return content[:sector] + dice.randbytes(len(spoiled)) + content[sector + len(spoiled) :]
+    spoiled = len(content[sector : sector + SECTOR])
+    # a small number often means something
+    anything = bytes([dice.randrange(4)]) + dice.randbytes(SECTOR) if dice.random() < 0.5 else dice.randbytes(SECTOR)
+    return content[:sector] + anything[:spoiled] + content[sector + spoiled :]
 
 
 class Disk:

@@ -67,10 +67,12 @@ def method_of(line):
 class Scripted(Listener):
     """Serves each connection by a list of replies, and all behind the last list by that. A reply is sent once its
     request is there whole, after some seconds; one that is a table is that of the request's method. Behind the last
-    reply of a list the client's close is awaited. `asked` has the first lines of each connection's requests."""
+    reply of a list the client's close is awaited. `asked` has the first lines of each connection's requests, and
+    `heard` is when the last head had come."""
 
     def __init__(self, *scripts, delay=0):
         self.scripts, self.delay, self.asked, self.kept = scripts, delay, [], contextlib.ExitStack()
+        self.heard = None
         super().__init__(self.converse)
 
     def close(self):
@@ -107,6 +109,7 @@ class Scripted(Listener):
             head += byte
         first, *fields = head.decode("latin-1").split("\r\n")
         self.asked[-1].append(first)
+        self.heard = time.monotonic()
         lengths = [line.partition(":")[2] for line in fields if line.lower().startswith("content-length:")]
         return int(lengths[0]) if lengths else 0
 

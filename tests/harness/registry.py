@@ -18,7 +18,7 @@ from .wire import sha256
 
 LOGIN = ("alice", "wonder")
 # what every reverse proxy needs
-PROXY = ("haproxy", "lua-cjson", "openssl")
+PROXY = ("haproxy", "openssl")
 # the statuses of a push in one chunk that goes well
 UPLOADED = [202, 202, 201]
 

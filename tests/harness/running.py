@@ -56,6 +56,18 @@ def told_by(words, **options):
     return ran.returncode, (ran.stdout + ran.stderr)[-1_000:]
 
 
+def without_builds(folder, *files):
+    """The variables with which nothing is built or proved: in this folder is a toolchain whose `rt` and whose other
+    files of these names fail at once."""
+    for name in ("bin/rt", *files):
+        path = os.path.join(folder, name)
+        os.makedirs(os.path.dirname(path), exist_ok=True)
+        with open(path, "w", encoding="ascii") as file:
+            file.write("#!/bin/sh\nexit 1\n")
+        os.chmod(path, 0o755)
+    return {"PATH": os.path.join(folder, "bin") + os.pathsep + os.environ["PATH"]}
+
+
 def run(*words, **options):
     """Standard output, the exit status and standard error of a run of the built program that ends by itself."""
     ran = finished([OPTIONS.program, *words], **options)

@@ -4,8 +4,10 @@ A script's words are the built program, its own options, and `-k WORD` for the c
 is a function. It makes checks, and goes on if one fails. If it raises an error, that is one more that failed.
 """
 import argparse
+import concurrent.futures
 import dataclasses
 import inspect
+import multiprocessing
 import os
 import signal
 import sys
@@ -83,9 +85,25 @@ def lacks(name, *needs):
     return bool(missing)
 
 
-def main(description, **options):
+def counted(number):
+    """Runs a case in a process of its own, and gives its counts."""
+    COUNTS.update({True: 0, False: 0})
+    CASES[number].run()
+    return COUNTS
+
+
+def run_apart(chosen):
+    """Runs cases at the same time, each in a process that knows what this one does."""
+    fork = multiprocessing.get_context("fork")
+    with concurrent.futures.ProcessPoolExecutor(len(chosen), mp_context=fork) as pool:
+        for counts in pool.map(counted, map(CASES.index, chosen)):
+            for holds, count in counts.items():
+                COUNTS[holds] += count
+
+
+def main(description, side_by_side=False, **options):
     """Runs the calling script's cases, and ends it: with status 1 if a check failed. Its options have a default and a
-    meaning each, and are in `OPTIONS`."""
+    meaning each, and are in `OPTIONS`. Cases that mostly wait may run side by side."""
     parser = argparse.ArgumentParser(description=description, formatter_class=argparse.RawDescriptionHelpFormatter)
     parser.add_argument("program", help="the built program, crates/blobd/out/blobd")
     parser.add_argument("-k", metavar="WORD", dest="words", action="append", help="only cases whose names have WORD")
@@ -100,7 +118,10 @@ def main(description, **options):
     chosen = [one for one in chosen if one.function.__module__ == "__main__"]
     if not chosen:
         check("the cases", False, "none has such a name")
-    for one in chosen:
-        one.run()
+    if side_by_side and len(chosen) > 1:
+        run_apart(chosen)
+    else:
+        for one in chosen:
+            one.run()
     print(f"{COUNTS[True]} passed, {COUNTS[False]} failed", flush=True)
     sys.exit(COUNTS[False] > 0)

@@ -155,6 +155,9 @@ class Client:
 
     def ask(self, method, target, body=b"", **fields):
         """The reply to a request. One that is refused inside its body has its reply too."""
+        # one that can't be made is an error
+        if not self.is_open:
+            self.connect()
         with contextlib.suppress(BrokenPipeError, ConnectionResetError, ssl.SSLEOFError):
             self.send(request_text(method, target, body, [*self.fields, *named(fields)]))
         return self.reply(method)
