@@ -23,40 +23,51 @@ EVERY = crates/blobd/out/blobd
 V3 = crates/blobd/out/blobd-v3
 # What a processor of that level has. The program checks as it starts that the processor is one.
 V3_FLAGS = avx avx2 bmi1 bmi2 f16c fma abm movbe xsave
-PROGRAM := $(if $(filter-out $(shell grep -m1 '^flags' /proc/cpuinfo),$(V3_FLAGS)),$(EVERY),$(V3))
-# What `make serve` and others build before they run it: nothing, if PROGRAM names a program.
-MADE = $(if $(filter file,$(origin PROGRAM)),$(PROGRAM))
-# What is built already, the one for this processor first. `make run` and `make upload` take it as it is.
-BUILT = $(firstword $(wildcard $(PROGRAM) $(EVERY)))
+NATIVE := $(if $(filter-out $(shell grep -m1 '^flags' /proc/cpuinfo),$(V3_FLAGS)),$(EVERY),$(V3))
+# The same program for every x86-64 processor, built without its proof.
+UNPROVED = crates/blobd/out/blobd-unproved
 
 # What the program is made of. A program that is newer than all of it is taken as it is.
-CRATES = upload_names upload_bytes upload_service http_wire upload_texts upload_wire upload_client upload_intake journal journal_file bodies upload_journal upload_store upload_records upload_compact upload_keeping upload_push blobd_shared blobd_data blobd_serve blobd_push blobd
-SOURCES := crates.txt $(shell find $(foreach crate,$(CRATES),$(foreach part,src specs proofs,crates/$(crate)/$(part))) -type f 2>/dev/null)
+CRATES = upload_names upload_bytes upload_service http_wire upload_texts upload_wire upload_client upload_keeper upload_intake journal journal_file bodies upload_journal upload_store upload_records upload_compact upload_keeping upload_push blobd_shared blobd_data blobd_serve blobd_push blobd_words blobd
+PARTS := crates.txt $(wildcard $(foreach crate,$(CRATES),$(foreach part,src specs proofs,crates/$(crate)/$(part))))
+SOURCES := $(shell find $(PARTS) -type f)
+
+# The proved programs that are no older than these, the one for this processor first.
+PROVED := $(foreach one,$(wildcard $(NATIVE) $(EVERY)),$(if $(shell find $(PARTS) -type f -newer $(one) -print -quit),,$(one)))
+# What `make serve` and others start: a proved one, else the unproved one.
+PROGRAM := $(or $(firstword $(PROVED)),$(UNPROVED))
+# What they build before that: nothing, if PROGRAM names a program.
+MADE = $(if $(filter file,$(origin PROGRAM)),$(PROGRAM))
+# What `make run` and `make upload` start, as it is: a proved one, else what was built last.
+BUILT = $(if $(MADE),$(firstword $(PROVED) $(shell ls -t $(NATIVE) $(EVERY) $(UNPROVED) 2>/dev/null)),$(wildcard $(PROGRAM)))
+# Says which it is, on standard error; of another one nothing.
+NOT_PROVED = not proved on this machine: make build proves it, in an hour
+say = $(if $(filter $(PROVED),$(1)),echo '$(1): proved' >&2,$(if $(filter $(UNPROVED),$(1)),echo '$(1): $(NOT_PROVED)' >&2,:))
 
 # Bodies and blobs are long lists of bytes. If glibc asks the system for huge pages, fresh memory costs them a third, and if
 # it has each block of 1 MiB and more from the system, chunks leave no gaps between them. With one heap for all threads, what
 # is free in it is free for each.
 MALLOC = GLIBC_TUNABLES=glibc.malloc.hugetlb=1:glibc.malloc.mmap_threshold=1048576:glibc.malloc.arena_max=1
 
-.PHONY: help try once serve run upload registry adapter build native image dist test edits edges wrong-bodies check format figures fuzz soak long large growths bench
+.PHONY: help once serve run upload registry adapter fast build native image dist test edits edges wrong-bodies check format figures fuzz soak long large growths bench
 # A build that fails leaves no program behind that looks newer than its sources.
 .DELETE_ON_ERROR:
 
 help:
-	@echo 'make try      a whole upload over one connection, by an interpreter and without proof: each request beside its reply, in two or three minutes'
-	@echo 'make once     the same by the proved program, `blobd once`'
+	@echo 'make once     a whole upload over one connection: each request beside its reply'
 	@echo 'make serve    the service at $(ADDR), until it is interrupted (ADDR=.. another address, WORKERS=.. connections at a time, COUNT=.. so many of each worker,'
 	@echo '              DATA=.. the folder in which it keeps what it has)'
 	@echo 'make upload   pushes $(FILE) to that service (FILE=.. another file), pulls it back and compares; in another shell'
 	@echo 'make registry a registry to push images to: TLS and a login, with HAProxy before the service (docs/OPERATIONS.md;'
 	@echo '              DATA=.. the folder in which it keeps what it has, with Redis for the tags)'
-	@echo '              once, serve and registry prove and build the program if its sources are newer: 30 to 60 minutes from nothing on'
-	@echo '              four cores, a few minutes after a change. Else they start at once'
+	@echo '              once, serve and registry start the proved program if its sources are no newer, else what make fast builds,'
+	@echo '              and say which. If it is built already, they start at once'
 	@echo 'make adapter REGISTRY=host:5443 LOGIN=FILE CA=FILE   lets blobd push to a registry on another machine, with TLS and a login'
-	@echo 'make run ARGS="push .."  the program as it was last built, with these words: it never proves'
+	@echo 'make run ARGS="push .."  the program as it is built, with these words: it never builds'
 	@echo
-	@echo 'make build    the proved program for every x86-64 processor: $(EVERY)'
-	@echo 'make native   the one that is fastest here: $(PROGRAM)'
+	@echo 'make fast     the program without its proof, in three minutes: $(UNPROVED)'
+	@echo 'make build    the proved program for every x86-64 processor, in 30 to 60 minutes from nothing on four cores: $(EVERY)'
+	@echo 'make native   the one that is fastest here: $(NATIVE)'
 	@echo 'make image    a container image of the built program, under dist/ (no base image is pulled)'
 	@echo 'make dist     a tar under dist/: the program in both forms, deploy/, the pages, the license, and the sums of all'
 	@echo
@@ -77,14 +88,12 @@ help:
 	@echo 'make bench    the same of `blobd serve` and `blobd push` over loopback, and a picture; then with a data directory, in this'
 	@echo '              folder: twenty minutes, and 11 GB of disk (docs/PERFORMANCE.md)'
 
-try:
-	@echo 'Unproved: this interprets the program as it stands, in two or three minutes. `make once` proves it first.' >&2
-	@cd crates/blobd && python3 ../../tools/conversation.py rt try -- once
-
-once: $(EVERY)
-	@python3 tools/conversation.py $(EVERY) once
+once: $(MADE)
+	@$(call say,$(PROGRAM))
+	@python3 tools/conversation.py $(PROGRAM) once
 
 serve: counted $(MADE)
+	@$(call say,$(PROGRAM))
 	@BLOBD_WORKERS=$(WORKERS) $(if $(DATA),BLOBD_DATA='$(DATA)') $(MALLOC) $(PROGRAM) serve $(ADDR) $(COUNT)
 
 # A COUNT that the program would refuse is refused before anything is built.
@@ -96,22 +105,28 @@ counted:
 	esac
 
 run: built
+	@$(call say,$(BUILT))
 	@$(MALLOC) $(BUILT) $(ARGS)
 
 upload: built
+	@$(call say,$(BUILT))
 	@$(BUILT) push $(ADDR) lib/demo '$(FILE)' 1048576
 	@curl -sS -H 'Connection: close' http://$(ADDR)/v2/lib/demo/blobs/sha256:$$(sha256sum '$(FILE)' | cut -d' ' -f1) | cmp - '$(FILE)'
 	@echo 'the same came back'
 
 .PHONY: built
 built:
-	@test -n '$(BUILT)' || { echo 'Nothing is built yet. make build proves and builds the program: 30 to 60 minutes from nothing on four cores; or name one that is built: PROGRAM=FILE' >&2; exit 1; }
+	@test -n '$(BUILT)' || { echo 'Nothing is built yet. make fast builds the program without its proof, in three minutes, and make build with it; or name one that is built: PROGRAM=FILE' >&2; exit 1; }
 
+fast: $(UNPROVED)
+	@echo '$(UNPROVED): $(NOT_PROVED)'
 build: $(EVERY)
 	@echo '$(EVERY)'
-native: $(PROGRAM)
-	@echo '$(PROGRAM)'
+native: $(NATIVE)
+	@echo '$(NATIVE)'
 
+$(UNPROVED): $(SOURCES)
+	@python3 tools/fast.py
 $(EVERY): $(SOURCES)
 	@python3 tools/build.py
 $(V3): $(SOURCES)
@@ -123,6 +138,7 @@ registry:
 ifneq ($(MADE),)
 	@$(MAKE) -s $(MADE)
 endif
+	@$(call say,$(PROGRAM))
 	@python3 deploy/registry.py $(PROGRAM) $(if $(DATA),'$(DATA)')
 
 adapter:
@@ -162,10 +178,11 @@ figures: $(EVERY)
 
 # Figures in docs/performance.json, and the picture of them.
 JSON = docs/performance.json
-bench: $(MADE)
-	@python3 bench/loopback.py $(PROGRAM) --json $(JSON)
+MEASURED = $(if $(MADE),$(NATIVE),$(PROGRAM))
+bench: $(if $(MADE),$(NATIVE))
+	@python3 bench/loopback.py $(MEASURED) --json $(JSON)
 	@python3 bench/draw.py $(JSON) docs/performance.svg
-	@python3 bench/disk.py $(PROGRAM)
+	@python3 bench/disk.py $(MEASURED)
 
 fuzz: $(EVERY)
 	@python3 tests/differential.py $(EVERY) --streams 100000

@@ -21,14 +21,16 @@ def are_refused(*words):
 
 @case()
 def words():
-    for count in ("", "0", "1000001", "+1"):
+    for count in ("", "0", "1000001", "+1", "1x", "18446744073709551617"):
         are_refused("serve", ADDR, count)
     are_refused("serve", ADDR, "1", "1")
-    for addr in ("localhost:0", "127.0.0.1"):
+    for addr in ("localhost:0", "127.0.0.1", "127.0.0.1:65536", ""):
         are_refused("serve", addr, "1")
-    are_refused("serve", "localhost:0")
-    are_refused("push", ADDR, "a", "f", "0")
-    for others in ([], ["twice"], ["serve"], ["once", "once"], ["status"], ["status", "--json"], ["status", "d", "d"]):
+        are_refused("serve", addr)
+    for chunk in ("0", "-1", "1k", "3G", "2147483649"):
+        are_refused("push", ADDR, "a", "f", chunk)
+    for others in ([], ["twice"], ["Once"], ["serve"], ["once", "once"], ["status"], ["status", "--json"], ["status", "d", "d"],
+                   ["status", "d", "--json"]):
         are_refused(*others)
     for others in ([], ["--dry-run"], ["d", "k", "k"], ["--grace", "1"], ["--grace", "1", "d"], ["--dry-run", "--grace", "1"],
                    ["--grace", "1", "--dry-run", "d", "k"], ["--grace", "1", "d", "k", "k"]):

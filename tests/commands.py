@@ -1,6 +1,6 @@
 #!/usr/bin/env python3
-"""The commands that people type, over the built program: what `make` says without building, requests beside their
-replies, and what is packed.
+"""The commands that people type, over the built program: what `make` says without building, which program it starts,
+requests beside their replies, and what is packed.
 
     commands.py PROGRAM
 """
@@ -8,12 +8,13 @@ import hashlib
 import io
 import json
 import os
+import shutil
 import sys
 import tarfile
 from unittest import mock
 
 from harness import TOP
-from harness.running import finished
+from harness.running import finished, without_builds
 from harness.suite import OPTIONS, case, check, equal, main, skip
 import build
 import pack
@@ -50,29 +51,77 @@ def test_nothing_is_built_by_run_and_upload():
         check(f"make {target} names another way", "or name one that is built: PROGRAM=FILE\n" in told, told)
 
 
+def forms(folder, *newer):
+    """The words that have `make` take these copies of the program in place of its own: the proved one and the unproved
+    one. They are older than their source, but those that are named."""
+    proved, unproved, source = (os.path.join(folder, name) for name in ("proved", "unproved", "source"))
+    written(source, "")
+    os.utime(source, (2, 2))
+    for path in (proved, unproved):
+        shutil.copy(OPTIONS.program, path)
+        second = 3 if os.path.basename(path) in newer else 1
+        os.utime(path, (second, second))
+    words = [f"EVERY={proved}", f"NATIVE={proved}", f"UNPROVED={unproved}", f"PARTS={source}"]
+    return proved, unproved, words
+
+
 @case()
-def test_what_is_newer_than_its_sources_is_started_at_once(folder):
-    every, fast, source = (os.path.join(folder, name) for name in ("blobd", "blobd-v3", "source"))
-    for path in (every, fast, source):
-        written(path, "")
-    words = [f"EVERY={every}", f"V3={fast}", f"SOURCES={source}"]
-    for newer, older, is_built in (((every, fast), (source,), False), ((source,), (every, fast), True)):
-        for paths, second in ((older, 1), (newer, 2)):
-            for path in paths:
-                os.utime(path, (second, second))
+def test_what_is_older_than_its_sources_is_built_without_its_proof(folder):
+    for newer in (["proved", "unproved"], ["proved"], ["unproved"], []):
+        _, _, words = forms(folder, *newer)
         for target in ("serve", "once", "registry"):
+            told, status = make("-n", target, *words)
+            name = f"make {target}, if what is newer than its sources is {newer}"
+            equal(name, (status, "tools/fast.py" in told, "tools/build.py" in told), (0, not newer, False))
+        for target in ("build", "native", "bench", "image", "fuzz"):
             told, _ = make("-n", target, *words)
-            name = f"make {target} builds what is {'older' if is_built else 'newer'} than its sources"
-            check(name, ("tools/build.py" in told) == is_built, told)
+            is_right = ("tools/build.py" in told) == ("proved" not in newer) and "unproved " not in told
+            check(f"make {target} is of the proved one", is_right, told)
+
+
+@case()
+def test_it_is_told_which_program_is_started(folder):
+    """On standard error: what scripts compare is as it was. `make run` and `make upload` start what is built."""
+    wanted, options = f"blobd {pack.version()}\n", {"cwd": TOP, "env": without_builds(folder)}
+    for newer in (["proved"], ["unproved"], []):
+        proved, unproved, words = forms(folder, *newer)
+        line = f"{unproved}: not proved on this machine: make build proves it, in an hour\n"
+        if newer == ["proved"]:
+            line = f"{proved}: proved\n"
+        if newer:
+            ran = finished(["make", "-s", "once", *words], **options)
+            told = ran.returncode, ran.stdout[:6], ran.stderr
+            equal(f"make once, newer: {newer}", told, (0, "--- 1.", line))
+        else:
+            # of two that are old that is taken which was built last
+            os.utime(unproved, (2, 2))
+        ran = finished(["make", "-s", "run", "ARGS=--version", *words], **options)
+        equal(f"make run, newer: {newer}", (ran.returncode, ran.stdout, ran.stderr), (0, wanted, line))
+    ran = finished(["make", "-s", "run", "ARGS=--version", f"PROGRAM={OPTIONS.program}", *words], **options)
+    equal("one that is named", (ran.returncode, ran.stdout, ran.stderr), (0, wanted, ""))
+
+
+@case()
+def test_a_toolchain_that_isnt_as_it_was_builds_nothing_unproved(folder):
+    kits = {
+        "less": without_builds(os.path.join(folder, "less")),
+        "other": without_builds(os.path.join(folder, "other"), "bin/rtlib.py", "toolchain/bin/clang"),
+        "none": {"PATH": folder},
+    }
+    for name, env in kits.items():
+        ran = finished([sys.executable, os.path.join(TOP, "tools", "fast.py")], env=env)
+        told = "rt isn't found." if name == "none" else "make build proves"
+        check(f"tools/fast.py, toolchain: {name}", ran.returncode == 1 and told in ran.stderr.splitlines()[-1], ran)
 
 
 @case()
 def test_a_program_that_is_named_is_not_built():
     """Neither one that isn't there, nor one that a rule would build."""
     for program in ("/nowhere/blobd", "crates/blobd/out/blobd"):
-        for target in ("serve", "registry", "bench"):
+        for target in ("serve", "registry", "once", "bench"):
             told, status = make("-n", target, f"PROGRAM={program}")
-            is_right = status == 0 and f" {program} " in told and "make -s" not in told and "build.py" not in told
+            is_built = any(step in told for step in ("make -s", "build.py", "fast.py"))
+            is_right = status == 0 and f" {program} " in told and not is_built
             check(f"make {target} PROGRAM={program}", is_right, told)
 
 

@@ -121,8 +121,10 @@ def files_that_no_record_names(folder):
     for number, size in ((70_001, 1_000), (70_002, 5)):
         with open(f"{path}/bodies/{number % 256:02x}/{number}", "wb") as file:
             file.write(bytes(size))
-    with open(f"{path}/bodies/00/other", "wb"):
-        pass
+    # and what names no body: no number, the number of another folder, and one behind a zero
+    for other in ("00/other", "00/70001", "71/070001"):
+        with open(f"{path}/bodies/{other}", "wb"):
+            pass
     keep, was = listed(folder, (NAME, sha256(BLOBS[0][0]))), files(path)
     for more in ([], [keep]):
         dry = run("compact", "--dry-run", path, *more)[0]
@@ -135,7 +137,7 @@ def files_that_no_record_names(folder):
     told, status, more = run("compact", path)
     equal("a compaction", (status, more), (0, ""))
     check("it says what went", told.endswith(" 2 files went\n"), told)
-    equal("what is left", len(bodies(path)), 2)
+    equal("what is left", len(bodies(path)), 4)
     with serving(path) as server:
         equal("the blob", pull(server, NAME, sha256(BLOBS[0][0])), BLOBS[0][0])
 

@@ -4,7 +4,7 @@ are named.
 
     edits.py                 every further edit
     edits.py --minutes N     some of them by turns: it begins no edit later than N minutes from now, and the next call
-                             goes on behind the last one
+                             goes on after the last one
     edits.py CRATE..         the further edits of these crates
     edits.py FILE..          these edits alone, of either folder
 
@@ -65,7 +65,7 @@ def tried(folder, edits):
 
 
 def tried_by_turns(folder, edits, minutes):
-    """Tries edits for so long, from behind the last one that was tried, as many at once as there are processors. Each
+    """Tries edits for so long, on from the last one that was tried, as many at once as there are processors. Each
     crate is checked here first: its edits in the copy begin with what that keeps."""
     end = time.monotonic() + 60 * minutes
     count, all_refused = 0, True

@@ -372,7 +372,7 @@ def in_a_budget():
 if __name__ == "__main__":
     main(
         __doc__,
-        seconds=(4, "how long the clients of each server go on"),
-        times=(10, "how often each worker is asked for everything"),
+        seconds=(1, "how long the clients of each server go on"),
+        times=(3, "how often each worker is asked for everything"),
         seed=(1, "of the clients"),
     )

@@ -3,26 +3,31 @@
 
     full_memory.py PROGRAM
 
-A server may hold a few MiB (`BLOBD_MEMORY`), and gets a limit on its address space not far above that. It gets blobs and
-open uploads of one size or of mixed sizes until it refuses several in a row. Then each of its workers is asked for what
+A server may hold a few MiB (`BLOBD_MEMORY`), and gets as little address space beside that as the program as it is built
+needs to serve (`ulimit -v`): how much that is, is found first, and told. It gets blobs and open uploads of one size or of mixed sizes until it refuses several in a row. Then each of its workers is asked for what
 is stored, for the status of each kind of upload, and for what is refused. Each request has to get its usual reply: with
 glibc as `make serve` sets it, with one heap for all threads, and as it is, if there is address space for a heap of each
 thread; and from a worker that had served nobody before memory was full.
 """
 import collections
-import os
+import contextlib
+import functools
 import random
-import resource
+import subprocess
 
 from harness import running
-from harness.running import MIB
+from harness.running import KIB, MIB
 from harness.suite import case, check, equal, main
-from harness.wire import Connection, request_text, sha256
+from harness.wire import Connection, connected, request_text, sha256
 import servers
 
-# What a server may hold, and how much address space it gets beside what it has once it listens.
+# What a server may hold, and how much address space it gets for that: with less the system refuses memory before the
+# server's count does.
 HELD = {"BLOBD_MEMORY": str(6 * MIB)}
-ROOM = 12 * MIB
+ROOM = 16 * MIB
+# A server with two workers may need no more KiB than this to serve. What it needs is found to so many. The system places
+# things at random: so it is tried several times.
+MOST_NEEDED, STEP, TRIES = 32 * KIB, 64, 4
 # What heaps of their own reserve for the threads of a server with two workers, at most. A thread that can't have one takes
 # a page of the system for each allocation.
 HEAPS_SPACE = 8 * 128 * MIB
@@ -160,21 +165,53 @@ def held(server):
     return connection, reply and reply.status
 
 
-def limit(server, heap):
-    """Gives a server with these heaps so much more address space than it has now."""
-    room = ROOM if heap else ROOM + HEAPS_SPACE
-    with open(f"/proc/{server.process.pid}/statm", encoding="ascii") as file:
-        has = int(file.read().split()[0]) * os.sysconf("SC_PAGE_SIZE")
-    _, hard = resource.prlimit(server.process.pid, resource.RLIMIT_AS)
-    resource.prlimit(server.process.pid, resource.RLIMIT_AS, (has + room, hard))
+def limited(space, heap):
+    """A server with so many KiB of address space, and these heaps."""
+    return running.Server(1_000_000, env=heap | HELD, limits=[f"-v {space}"], stderr=subprocess.DEVNULL)
+
+
+def serves(space, heap):
+    """Whether each of its two workers answers in so many KiB of address space."""
+    with limited(space, heap) as server, contextlib.ExitStack() as stack:
+        if not server.first_line.startswith("listening "):
+            return False
+        for _ in range(2):
+            # one whose worker couldn't start is refused, or ended without a reply
+            with contextlib.suppress(OSError):
+                connection = stack.enter_context(connected(server.place()))
+                connection.sendall(request_text("GET", "/v2/"))
+                if connection.recv(12) == b"HTTP/1.1 200":
+                    continue
+            return False
+        return True
+
+
+@functools.cache
+def needed(heap):
+    """The KiB of address space that a server with these heaps needs at least to serve."""
+    too_little, enough = 0, MOST_NEEDED
+    while enough - too_little > STEP:
+        middle = (too_little + enough) // 2
+        if all(serves(middle, HEAPS[heap]) for _ in range(TRIES)):
+            enough = middle
+        else:
+            too_little = middle
+    check(f"it serves, {heap}", enough < MOST_NEEDED, enough)
+    print(f"{heap}: it needs {enough / KIB:.1f} MiB of address space to serve", flush=True)
+    return enough
+
+
+def within_least(heap):
+    """A server with as little address space as it needs to serve, and to hold what it may."""
+    room = ROOM if HEAPS[heap] else ROOM + HEAPS_SPACE
+    return limited(needed(heap) + room // KIB, HEAPS[heap])
 
 
 def full(name, size, heap, seed):
-    with running.Server(1_000_000, env=heap | HELD) as server:
+    with within_least(heap) as server:
         # This connection keeps one worker: the other one fills.
         keeping, status = held(server)
         equal(f"a worker is kept: {name}", status, 200)
-        limit(server, heap)
         filling = Filling(server, size, seed)
         filling.fill()
         wanted = list(replies(filling))
@@ -190,12 +227,10 @@ def full(name, size, heap, seed):
 
 def unused_worker(name, heap):
     """A worker that had served nobody before another one filled the memory, over one connection."""
-    with running.Server(1_000_000, env=heap | HELD) as server:
+    with within_least(heap) as server:
         filling = Filling(server, SIZES["30,000 bytes"], 0)
         only = filling.connection
-        # Once one worker has served, both were started.
         check(f"a worker serves: {name}", filling.store())
-        limit(server, heap)
         # Large ones first: a thread's heap has 64 MiB of address space before it needs more.
         for filling.size in SIZES["30,000 bytes"], SIZES["128 bytes"]:
             vain = 0
@@ -208,15 +243,15 @@ def unused_worker(name, heap):
 
 @case()
 def test_unused():
-    for heap, settings in HEAPS.items():
-        unused_worker(heap, settings)
+    for heap in HEAPS:
+        unused_worker(heap, heap)
 
 
 @case()
 def test_full():
     for seed, (sizes, size) in enumerate(SIZES.items()):
-        for heap, settings in HEAPS.items():
-            full(f"{sizes}, {heap}", size, settings, seed)
+        for heap in HEAPS:
+            full(f"{sizes}, {heap}", size, heap, seed)
 
 
 if __name__ == "__main__":

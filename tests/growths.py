@@ -54,7 +54,8 @@ def run_refused(folder, command, sent, number):
         given.write(sent)
         given.seek(0)
         try:
-            ran = running.finished(command, stdin=given, text=False, env=env, pass_fds=[teller])
+            # what a test makes in a folder of its own stands in this one
+            ran = running.finished(command, stdin=given, text=False, env=env, pass_fds=[teller], cwd=folder)
             written, status = ran.stdout, ran.returncode
         except subprocess.TimeoutExpired:
             written, status = b"", None

@@ -1,34 +1,43 @@
 #!/usr/bin/env python3
-"""What somebody meets who tries it for the first time: commands that say that they work, an image that anybody may
-read, and settings that HAProxy has nothing to say of.
+"""What somebody meets who tries it for the first time: a server without a proof, in minutes, an image that anybody may
+read, and settings that HAProxy has nothing to say of. The program without its proof is built if its sources are newer.
 
     newcomers.py PROGRAM
 """
-import contextlib
 import io
 import os
+import subprocess
 import sys
 import tarfile
-from unittest import mock
 
 from harness import TOP
 from harness.registry import LOGIN, PROXY, servers
-from harness.running import finished, told_by
+from harness.running import environment, finished, told_by, without_builds
 from harness.suite import case, check, equal, main
-import conversation
+from harness.wire import PATIENCE, Client
 import pack
 
+UNPROVED = "crates/blobd/out/blobd-unproved"
+NOT_PROVED = f"{UNPROVED}: not proved on this machine: make build proves it, in an hour\n"
+# minutes on a quiet machine
+BUILT_WITHIN = 3600
 
-@case()
-def what_takes_its_time_says_so():
-    """One that ends at once says nothing."""
-    told = io.StringIO()
-    with mock.patch.object(conversation, "PAUSE", 0.2), contextlib.redirect_stderr(told):
-        for command in (["true"], ["sleep", "1"]):
-            with open(os.devnull, "rb") as nothing:
-                equal(" ".join(command), conversation.answered(command, nothing), (b"", b"", 0))
-            lines = told.getvalue().splitlines()
-            check(f"{command[0]} is told", bool(lines) == (command[0] == "sleep"), lines)
+
+@case("rt")
+def a_server_without_a_proof(folder):
+    """`make serve` if nothing is proved: once the program is built it is built no more, and it serves."""
+    ran = finished(["make", "-s", "fast"], cwd=TOP, timeout=BUILT_WITHIN)
+    equal("make fast", (ran.returncode, ran.stdout), (0, NOT_PROVED))
+    equal("it is built once", finished(["make", "-q", UNPROVED], cwd=TOP).returncode, 0)
+    words = ["serve", "ADDR=127.0.0.1:0", "COUNT=1", "WORKERS=1", "EVERY=/nowhere", "NATIVE=/nowhere/v3"]
+    options = {"cwd": TOP, "env": environment(without_builds(folder)), "text": True}
+    streams = {"stdout": subprocess.PIPE, "stderr": subprocess.PIPE}
+    with subprocess.Popen(["make", "-s", *words], **options, **streams) as server:
+        first, _, address = server.stdout.readline().partition(" ")
+        with Client(servers.place(address.strip())) as client:
+            equal("it answers", client.ask("GET", "/v2/", Connection="close").status, 200)
+        told = first, *server.communicate(timeout=PATIENCE), server.returncode
+    equal("make serve", told, ("listening", "served\n", NOT_PROVED, 0))
 
 
 @case()

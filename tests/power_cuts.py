@@ -406,6 +406,6 @@ def starts_that_compact(folder):
 if __name__ == "__main__":
     main(
         __doc__,
-        cuts=(1_500, "how many cuts"),
+        cuts=(375, "how many cuts"),
         seed=(1, "where the dice begin"),
     )

@@ -116,7 +116,7 @@ def servers_that_come_again(folder):
 def servers_that_stay_away(folder):
     """Where nobody listens one ask dials for a minute, and those after it once each. That is told once, and a terminal
     sees how long it goes on."""
-    abc, hasty = written(folder, b"abc"), shims.loaded(folder, "minutes")
+    abc, hasty = written(folder, b"abc"), shims.loaded(folder, "minutes", MINUTES_OF="pauses")
     addr = servers.free_address()
     begun = time.monotonic()
     ended = run("push", addr, "lib/a", abc, "2", env=hasty)
@@ -129,13 +129,14 @@ def servers_that_stay_away(folder):
     line = rf"\rblobd: waits for {addr}, where nobody listens: (\d+) s left\x1b\[K"
     left = [int(left) for left in re.findall(line, drawn)]
     check("the minute is counted down", left == sorted(left, reverse=True) and len(left) > 20 and left[0] > 50, left)
-    with concurrent.futures.ThreadPoolExecutor(1) as pool:
-        late = pool.submit(run, "push", addr, "lib/a", abc, "2", env=hasty)
-        # half of the minute
-        time.sleep(1)
+    # its minute is a whole one, within which a busy machine starts the server too
+    words, pipe = [OPTIONS.program, "push", addr, "lib/a", abc, "2"], subprocess.PIPE
+    with subprocess.Popen(words, stdout=pipe, stderr=pipe, text=True) as waiting:
+        told = waiting.stderr.readline()
         with Server(100, servers.place(addr)[1]):
-            wanted = (*pushed(b"abc")[:2], waits_for(addr, NOBODY))
-            equal("a server that starts within the minute", untimed(late.result()), wanted)
+            line, rest = waiting.communicate(timeout=PATIENCE)
+        wanted = (*pushed(b"abc")[:2], waits_for(addr, NOBODY))
+        equal("a server that starts within the minute", untimed((line, waiting.returncode, told + rest)), wanted)
 
 
 def unavailable(body, message=None):
@@ -308,4 +309,4 @@ def signals_between(folder):
 
 
 if __name__ == "__main__":
-    main(__doc__)
+    main(__doc__, side_by_side=True)

@@ -1,88 +1,37 @@
 #!/usr/bin/env python3
-"""Checks of the repository itself: what its files may say, and what must stand beside each public function.
+"""Checks of the repository itself: what its files may say, and what must stand beside what.
 
 Prints a line for each check, and 'N passed, M failed' as the last. Exit status 1 if one failed.
 """
 import collections
+import itertools
 import os
 import re
 import sys
 
 import definitions
-import functions
 import pages
 import stored
 import wrong_bodies
 from files import TOP, text_of, tracked
-from functions import PROGRAM
 
 HANDLES = "Handles allowed: Threads, Wait, Net.\n"
 
 HOLE = re.compile(r"(=\s*\?|[( ]\?[ ),]|\?\s*$)")
 
-# How many edits `make test` tries at most. Each takes a proof of its crate, which is 20 seconds to 10 minutes of a
-# processor: 270 of them took half of the gate's time.
-MOST_TRIED = 170
+# What the program is made of beside the libraries: no other crate stands on these.
+PROGRAM = {"blobd", "blobd_data", "blobd_push", "blobd_serve", "blobd_shared", "blobd_tests", "blobd_words"}
+
+# How many edits `make test` tries at most, and how many further ones `make edits` has. Each takes 10 seconds to two and
+# a half minutes of a processor, and the first of a crate a proof of it: 162 of them took half of the gate's time.
+MOST_TRIED = 45
+MOST_FURTHER = 200
 
 # Settings of the C library's memory. A record of figures has those that they were measured with.
 TUNED = re.compile(r"glibc\.malloc\.hugetlb=[\w.:=]+")
 
 # A module that a crate has only in its tests.
 OF_TESTS = re.compile(r"^#\[cfg\(test\)\]\nmod (\w+);", re.MULTILINE)
-
-# Functions of which no clause says anything, since none can speak of another thread, of what is told to people, or of a
-# file that is another process's. Tests stand for them.
-NO_CLAUSE = {
-    "upload_bytes": {
-        "ThreadEnd::new",
-        "ThreadEnd::wait",
-        "Room::of",
-        "Upload::stays",
-        "Blob::keep_in",
-        "Body::keep_in",
-        "Upload::keep_in",
-        "Spool::in_folder",
-        "Spool::in_memory",
-        "SpoolFile::sync_data",
-        "SyncedFile::path",
-    },
-    "upload_service": {"Service::is_scarce", "Service::room"},
-    "upload_store": {"Hints::note", "most_ahead"},
-    "journal_file": {"Folder::remove", "Folder::rename"},
-    "blobd_shared": {"millis_since"},
-    "blobd_data": {
-        "tell_losses",
-        "tell_missing",
-        "tell_end",
-        "tell_final",
-        "tell_files",
-        "tell_repairs",
-        "mend_all",
-        "Progress::begin",
-        "Progress::end",
-        "read_status",
-        "open_journal",
-        "open_shelf",
-        "look_at_journal",
-        "refuse_cut",
-        "has_bodies",
-        "length_of",
-        "compact_data",
-        "list_files",
-        "amount_but",
-        "bytes_in",
-        "note_named",
-        "weigh_records",
-        "weigh_data",
-        "foresee_data",
-        "read_list",
-        "seconds_now",
-        "compact_if_worth",
-    },
-    "blobd_push": {"Message::is_empty", "Notes::note_read", "Notes::tells_wait"},
-    "blobd_serve": {"Holdings::of", "Holdings::look", "time_now", "Fullness::new", "Fullness::share", "Fullness::tells"},
-    "blobd": {"print_status", "run_compact", "usual_memory"},
-}
 
 
 def holes(paths):
@@ -158,42 +107,31 @@ def handles(_):
     return [] if text_of("HANDLES") == HANDLES else ["HANDLES is not its one line"]
 
 
-def unbroken(_):
-    """Public functions that decide something and that no edit breaks, and edits that break a function that isn't
-    there."""
-    found, edits = [], wrong_bodies.edits()
-    for crate in sorted(os.listdir(os.path.join(TOP, "crates"))):
-        of_crate = [edit for edit in edits if edit.crate == crate]
-        broken = {name for edit in of_crate for name in edit.breaks} | NO_CLAUSE.get(crate, set())
-        missing = [name for name in functions.deciding(crate) if name not in broken]
-        found += [f"{crate}: no edit breaks {name}" for name in missing]
-        known = functions.breakable(crate)
-        found += [
-            f"{edit.path} breaks {name}, which isn't there"
-            for edit in of_crate
-            for name in edit.breaks
-            if name not in known
-        ]
+def too_many(_):
+    """More edits than the gate, or `make edits`, has time for."""
+    count = collections.Counter(edit.folder for edit in wrong_bodies.edits())
+    return [
+        f"{count[folder]} edits in {folder}/ in place of {most}"
+        for folder, most in (("must-fail", MOST_TRIED), ("further-edits", MOST_FURTHER))
+        if count[folder] > most
+    ]
+
+
+def headless(paths):
+    """Must-fail edits that don't say what they do wrong, which functions that are there refuse it, or by what."""
+    found = []
+    for crate, of_crate in itertools.groupby(wrong_bodies.edits(), lambda edit: edit.crate):
+        code = " ".join(text_of(path) for path in paths if path.startswith(f"crates/{crate}/src/"))
+        functions = set(re.findall(r"\bfn (\w+)", code))
+        for edit in of_crate:
+            broken = {name.split(":")[-1] for name in edit.breaks}
+            if not edit.wrong:
+                found.append(f"{edit.path} has no line '# wrong: ..'")
+            if not broken or not broken <= functions:
+                found.append(f"{edit.path} has no line '# breaks: ..' that names functions which are there")
+            if edit.is_tried and not edit.ruled_out_by:
+                found.append(f"{edit.path} has no line '# ruled out by: ..'")
     return found
-
-
-def overtried(_):
-    """What must-fail/ has too much of: more edits than the gate has time for, or a second one of a function beside the
-    known mistakes. And crates that decide something and have none there."""
-    tried = [edit for edit in wrong_bodies.edits() if edit.folder == "must-fail"]
-    crates = sorted(os.listdir(os.path.join(TOP, "crates")))
-    without = {crate for crate in crates if functions.deciding(crate)} - {edit.crate for edit in tried}
-    found = [f"{crate}: decides something, and has no edit in must-fail/" for crate in sorted(without)]
-    others = collections.Counter((edit.crate, name) for edit in tried if not edit.is_known for name in edit.breaks)
-    found += [f"{crate}: {count} edits of {name} in must-fail/" for (crate, name), count in others.items() if count > 1]
-    return found if len(tried) <= MOST_TRIED else [*found, f"{len(tried)} edits in must-fail/ in place of {MOST_TRIED}"]
-
-
-def headless(_):
-    """Must-fail edits that don't say what they do wrong, or what they break."""
-    edits = wrong_bodies.edits()
-    found = [f"{edit.path} has no line '# wrong: ..'" for edit in edits if not edit.wrong]
-    return found + [f"{edit.path} has no line '# breaks: ..'" for edit in edits if not edit.breaks]
 
 
 def unapplied(paths):
@@ -239,7 +177,7 @@ def unversioned(paths):
     """The program's version, and that of the first entry of the changes, if it isn't that of the file VERSION."""
     version = text_of("VERSION").strip()
     found = []
-    forms = {"crates/blobd/src/help.rt": r'VERSION: &str = "blobd (.*)";', "CHANGELOG.md": r"^## \[(.*?)\]"}
+    forms = {"crates/blobd_words/src/help.rt": r'VERSION: &str = "blobd (.*)";', "CHANGELOG.md": r"^## \[(.*?)\]"}
     for path, form in forms.items():
         said = re.findall(form, text_of(path), re.MULTILINE)[:1]
         if said != [version]:
@@ -247,12 +185,8 @@ def unversioned(paths):
     return found if re.fullmatch(r"[0-9]+\.[0-9]+\.[0-9]+", version) else [*found, "VERSION isn't a version"]
 
 
-def disturbed(_):
-    """Stored connections that the model answers otherwise, and rows that aren't those that are made of them."""
-    found = [f"tests/connections/{stem}: the model answers otherwise" for stem in stored.unlike_the_model()]
-    if not found and text_of(stored.ROWS) != stored.rows():
-        found.append(f"{stored.ROWS} isn't what tests/stored.py writes")
-    return found
+def unlike_the_model(_):
+    return [f"tests/connections/{stem}: the model answers otherwise" for stem in stored.unlike_the_model()]
 
 
 def unlike_copies(paths):
@@ -260,6 +194,14 @@ def unlike_copies(paths):
     that takes them has the file."""
     copies = [path for path in paths if re.fullmatch(r"crates/\w+/src/expect\.rt", path)]
     return [f"{path} isn't {copies[0]}" for path in copies[1:] if text_of(path) != text_of(copies[0])]
+
+
+def vouched_by_nothing(paths):
+    """Places that name the keeping that keeps nothing, beside the two modules that may make one and the line that hands
+    it from one to the other. Whoever makes one can vouch by it for any answer."""
+    may = {f"crates/{crate}/src/unkept.rt" for crate in ("upload_keeper", "upload_intake")}
+    found = [path for path in paths if path.endswith(".rt") and path not in may and "NoKeeping" in text_of(path)]
+    return [path for path in found if path != "crates/upload_keeper/src/lib.rt"]
 
 
 def untuned(paths):
@@ -280,10 +222,9 @@ CHECKS = [
     ("definitions name nothing that only tests declare", of_tests_alone),
     ("no output is committed", outputs),
     ("HANDLES is its one line", handles),
-    ("every public function that decides something has an edit that breaks it", unbroken),
-    ("must-fail/ has something of each crate that decides, and no more than the gate has time for", overtried),
-    ("every edit says what it does wrong and what it breaks", headless),
-    ("the page of wrong bodies has the known mistakes", pages.unlisted),
+    ("no more edits than there is time for", too_many),
+    ("every edit says what it does wrong and what refuses it", headless),
+    ("the page of wrong bodies has the edits that make test tries", pages.unlisted),
     ("every edit applies", unapplied),
     ("each link of a page leads somewhere", pages.unlinked),
     ("each row of the promises names functions and clauses that are there", pages.unpromised),
@@ -296,8 +237,9 @@ CHECKS = [
     ("the version is said once", unversioned),
     ("the page on using the crates shows its programs as they are", pages.unshown),
     ("pages for users call an upload an upload", pages.called_sessions),
-    ("the stored connections are what the tests of disturbed streams take", disturbed),
+    ("the model answers each stored connection as its files say", unlike_the_model),
     ("the assertions of tests are the same in each crate", unlike_copies),
+    ("what keeps nothing is named in two modules", vouched_by_nothing),
     ("the C library's memory is set the same everywhere", untuned),
 ]
 

@@ -406,7 +406,8 @@ def dripped(server, parts, pause):
 def slow_clients(folder):
     """A client that drips a head or a body is cut once its minute is over, which takes two seconds here, and one that
     is as fast as is asked isn't."""
-    with Server(env=shims.loaded(folder, "minutes")) as server:
+    env = shims.loaded(folder, "minutes", BLOBD_WORKERS=6)
+    with Server(env=env) as server, concurrent.futures.ThreadPoolExecutor(6) as pool:
         bytes_of_head = [bytes([byte]) for byte in b"GET /v2/ HTTP/1.1\r\nX: " + b"a" * 400]
         # all of it would take twenty seconds
         reply, took = dripped(server, bytes_of_head, 0.05)
@@ -416,10 +417,11 @@ def slow_clients(folder):
         check("a body that drips is cut", reply is None and took > 1.5, (reply, took))
         # Five seconds are two and a half minutes here. A machine that halts for two seconds makes any client slow: one
         # of some is fast enough.
-        replies = [dripped(server, [head_of_chunk(server), *[b"x" * 8_000] * 50], 0.1) for _ in range(3)]
+        replies = [pool.submit(dripped, server, [head_of_chunk(server), *[b"x" * 8_000] * 50], 0.1) for _ in range(3)]
+        statuses = list(pool.map(used_now_and_then, [server] * 3))
+        replies = [reply.result() for reply in replies]
         taken = [reply for reply, took in replies if reply is not None and b" 202 Accepted" in reply and took > 4.5]
         check("a slow body that is fast enough", taken, replies)
-        statuses = [used_now_and_then(server) for _ in range(3)]
         check("a connection that is used now and then", [200] * 6 in statuses, statuses)
 
 
@@ -483,4 +485,4 @@ def moves_much_at_once(folder):
 
 
 if __name__ == "__main__":
-    main(__doc__)
+    main(__doc__, side_by_side=True)

@@ -36,10 +36,12 @@ def no_descriptors(folder):
         # a wait takes five milliseconds here: more than a thousand of each worker
         time.sleep(6)
         check("they wait on", server.process.poll() is None, server.process.returncode)
+        # a request that comes late would be given up
+        for client in clients:
+            client.sendall(LAST_BASE)
         server.allow_descriptors(64)
         for client in clients:
             with client:
-                client.sendall(LAST_BASE)
                 is_answered("a reply once there are descriptors", client)
         ended = *server.ended(), server.process.stderr.read()
         equal("the end after no descriptors", ended, (*SERVED, ""))

@@ -14,7 +14,7 @@ from harness.data import bodies, tree
 from harness.pushers import NAME, has_all, post
 from harness.running import FULL, MIB, Server, ask_alone, pull, run
 from harness.suite import OPTIONS, case, check, equal, main
-from harness.wire import sha256
+from harness.wire import PATIENCE, sha256
 
 ROOM = 12 * MIB
 # what the tables take for a blob, beside its name
@@ -39,12 +39,16 @@ def filled(client, chance, sizes):
 
 
 def changes_nothing(client, chance):
-    """Each request that changes nothing is answered while there is no room."""
-    content = chance.randbytes(10)
+    """Each request that changes nothing is answered while there is no room, also for a body that it brings."""
+    content, large = chance.randbytes(10), bytes(5 * MIB)
+    upload = f"/v2/{NAME}/blobs/uploads/{'0' * 8}-0000-0000-0000-{'0' * 12}"
     for name, method, target, body, status in [
         ("the base path", "GET", "/v2/", b"", 200),
+        ("the base path, with a large body", "GET", "/v2/", large, 200),
         ("a blob that isn't there", "HEAD", f"/v2/{NAME}/blobs/{sha256(content)}", b"", 404),
-        ("an upload that isn't open", "GET", f"/v2/{NAME}/blobs/uploads/{'0' * 8}-0000-0000-0000-{'0' * 12}", b"", 404),
+        ("an upload that isn't open", "GET", upload, b"", 404),
+        ("a large chunk of an upload that isn't open", "PATCH", upload, large, 404),
+        ("an opening with a large body", "POST", f"/v2/{NAME}/blobs/uploads/", large, 400),
         ("another digest", "POST", f"/v2/{NAME}/blobs/uploads/?digest={sha256(b'x')}", content, 400),
     ]:
         equal(name, client.ask(method, target, body).status, status)
@@ -79,8 +83,8 @@ def what_is_there_takes_no_more():
 
 
 def until(wanted, ask):
-    """The statuses of what is asked again and again, for half a minute at most, up to this one."""
-    statuses, end = [], time.monotonic() + 30
+    """The statuses of what is asked again and again, up to this one."""
+    statuses, end = [], time.monotonic() + PATIENCE
     while not statuses or (statuses[-1] != wanted and time.monotonic() < end):
         statuses.append(ask())
         time.sleep(0.1)

@@ -1,5 +1,6 @@
 #!/usr/bin/env python3
-"""Prints a table of the must-fail edits of each crate: what each does wrong, what refuses it, and who tries it.
+"""Prints the must-fail edits: a table of those that `make test` tries, which docs/WRONG-BODIES.md has, and for each
+crate one of the further ones, which `make edits` tries.
 
     wrong_bodies.py             of all crates
     wrong_bodies.py CRATE..     of these
@@ -9,7 +10,7 @@ prover skips:
 
     # wrong: what the edited function does wrong
     # breaks: RepoName::read, <RepoName as Ord>::cmp   the functions whose contracts refuse it
-    # ruled out by: `RepoName::read: named`            only for a known mistake: docs/WRONG-BODIES.md has a row for it
+    # ruled out by: `RepoName::read: named`            the clauses that do: each edit in must-fail/ says so
 """
 import dataclasses
 import itertools
@@ -19,8 +20,8 @@ import sys
 
 from files import TOP
 
-# the folders of edits, and what tries those in each
-FOLDERS = {"must-fail": "make test", "further-edits": "make edits"}
+# the folders of edits: those that `make test` tries, and the others
+FOLDERS = ("must-fail", "further-edits")
 HEAD = re.compile(r"# (wrong|breaks|ruled out by): *(.*)")
 
 
@@ -37,9 +38,9 @@ class Edit:
     ruled_out_by: str
 
     @property
-    def is_known(self):
-        """Whether it is a known mistake, which the page of wrong bodies has."""
-        return bool(self.ruled_out_by) and self.folder == "must-fail"
+    def is_tried(self):
+        """Whether `make test` tries it."""
+        return self.folder == "must-fail"
 
 
 def edit_at(path):
@@ -87,22 +88,33 @@ def edits():
     return sorted(found, key=lambda edit: (edit.crate, edit.name))
 
 
-def row(*cells):
+def row(cells):
     return f"| {' | '.join(cells)} |"
 
 
-def table(of_crate):
-    lines = [row("Edit", "What it does wrong", "Breaks", "Tried by"), "|---|---|---|---|"]
-    for edit in of_crate:
-        breaks = ", ".join(f"`{name}`" for name in edit.breaks)
-        lines.append(row(f"`{edit.name}`", edit.wrong, breaks, f"`{FOLDERS[edit.folder]}`"))
-    return "\n".join(lines)
+def table(heads, rows):
+    return "\n".join([row(heads), "|---" * len(heads) + "|", *map(row, rows)])
+
+
+def known(of_crates):
+    """The table of the edits that `make test` tries."""
+    rows = [(f"`{it.name}`", f"`{it.crate}`", it.wrong, it.ruled_out_by) for it in of_crates if it.is_tried]
+    return table(("Edit", "Crate", "Mistake", "Ruled out by"), rows)
+
+
+def further(of_crate):
+    """The table of the further edits of a crate."""
+    rows = [
+        (f"`{it.name}`", it.wrong, ", ".join(f"`{name}`" for name in it.breaks)) for it in of_crate if not it.is_tried
+    ]
+    return table(("Edit", "Mistake", "Breaks"), rows)
 
 
 def main(crates):
-    for crate, of_crate in itertools.groupby(edits(), lambda edit: edit.crate):
-        if not crates or crate in crates:
-            print(f"## {crate}\n\n{table(of_crate)}\n")
+    found = [edit for edit in edits() if not crates or edit.crate in crates]
+    print(f"{known(found)}\n")
+    for crate, of_crate in itertools.groupby(found, lambda edit: edit.crate):
+        print(f"## {crate}\n\n{further(of_crate)}\n")
     return 0
 
 

@@ -3,10 +3,9 @@
 
     conversation.py COMMAND..       for example crates/blobd/out/blobd once
 
-The command is given the requests of crates/blobd/stdin as its standard input. While it works, a line on standard error
-says so every few seconds. Exit status 1 if it doesn't answer each of them.
+The command is given the requests of crates/blobd/stdin as its standard input. Exit status 1 if it doesn't answer each
+of them.
 """
-import itertools
 import os
 import re
 import subprocess
@@ -15,8 +14,6 @@ import sys
 TOP = os.path.dirname(os.path.dirname(os.path.abspath(__file__)))
 REQUESTS = os.path.join(TOP, "crates", "blobd", "stdin")
 LENGTH = re.compile(rb"^content-length: *([0-9]+)\r$", re.IGNORECASE | re.MULTILINE)
-# seconds between two lines that say that it works
-PAUSE = 5
 # what each request shows, in their order
 SHOWS = [
     "an upload is opened: the reply says where its chunks go",
@@ -46,33 +43,23 @@ def shown(message, mark):
     return "\n".join(f"{mark} {line}".rstrip() for line in lines)
 
 
-def answered(command, asked):
-    """What the command prints if it reads this file, and its status."""
-    with subprocess.Popen(command, stdin=asked, stdout=subprocess.PIPE, stderr=subprocess.PIPE) as running:
-        for turn in itertools.count(1):
-            try:
-                return *running.communicate(timeout=PAUSE), running.returncode
-            except subprocess.TimeoutExpired:
-                print(f"{turn * PAUSE} s: at work, and all replies come at its end", file=sys.stderr, flush=True)
-
-
 def main(command):
     if not command:
         print(__doc__)
         return 2
     try:
         with open(REQUESTS, "rb") as asked:
-            replied, told, status = answered(command, asked)
+            ran = subprocess.run(command, stdin=asked, capture_output=True, check=False)
     except FileNotFoundError as fault:
         print(f"{fault.filename} isn't found (docs/TROUBLES.md)", file=sys.stderr)
         return 1
     with open(REQUESTS, "rb") as file:
-        requests, replies = list(messages(file.read())), list(messages(replied))
+        requests, replies = list(messages(file.read())), list(messages(ran.stdout))
     for number, (shows, request, reply) in enumerate(zip(SHOWS, requests, replies), 1):
         print(f"--- {number}. {shows}\n{shown(request, '>')}\n\n{shown(reply, '<')}\n")
-    if status != 0 or not len(SHOWS) == len(requests) == len(replies):
-        sys.stderr.write(told.decode("utf-8", "replace"))
-        print(f"{len(replies)} replies to {len(requests)} requests, and status {status}", file=sys.stderr)
+    if ran.returncode != 0 or not len(SHOWS) == len(requests) == len(replies):
+        sys.stderr.write(ran.stderr.decode("utf-8", "replace"))
+        print(f"{len(replies)} replies to {len(requests)} requests, and status {ran.returncode}", file=sys.stderr)
         return 1
     print(f"{len(replies)} requests, each answered; the connection ended well.")
     return 0
