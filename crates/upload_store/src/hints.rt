@@ -39,6 +39,8 @@ pub struct Hints {
     most: u64,
     /// The place of what is asked for next.
     next: u64,
+    /// Whether there was no memory for an entry.
+    is_over: bool,
 }
 
 impl Hints {
@@ -51,13 +53,16 @@ impl Hints {
             uploads: BTreeMap::new(alloc),
             most,
             next: 0,
+            is_over: false,
         }
     }
 
-    /// Takes in the next entry.
+    /// Takes in the next entry. If there is no memory for it, it is left out, and so are all after it: an upload would
+    /// be read ahead without one of its chunks.
     pub fn note(&mut self, entry: &Entry) {
-        // Without memory it is left out.
-        let _ = self.add(entry);
+        if !self.is_over {
+            self.is_over = self.add(entry).is_err();
+        }
     }
 
     /// The hints, in the order in which their first bodies are asked for.
@@ -225,8 +230,9 @@ impl Machine for Hints {
     ghost has_refused = { λ _. Never };
 
     fn apply(&mut self, _time: u64, bytes: &[u8]) -> io::Result<()> {
-        if let Ok(entry) = read_entry(self.alloc, bytes) {
-            self.note(&entry);
+        match read_entry(self.alloc, bytes) {
+            Ok(entry) => self.note(&entry),
+            Err(_) => self.is_over = true,
         }
         Ok(())
     }
