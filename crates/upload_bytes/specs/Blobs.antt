@@ -8,7 +8,7 @@ use Rattle.upload_bytes.specs.Before.{bytes_before}
 
 -- the bytes of the last body
 abbrev pub body_in : Several → List ℕ
-body_in several = concat several.parts.items ++ several.last
+body_in several = concat several.stretches.items ++ several.last
 
 -- the bytes before the last body
 abbrev pub before_last : Several → List ℕ

@@ -12,9 +12,10 @@ use Rattle.upload_bytes.specs.Fronts.{HoldsBehind}
 abbrev pub bytes_in : Pieces → List ℕ
 bytes_in pieces = concat pieces.parts.items ++ pieces.last
 
--- The hashes that a body carries, its file, and its length are those of its bytes.
-pub record IsBody (running : Option Running) (hashed : Option Behind) (written : Option (Result (List ℕ) Error)) (len : ℕ) (bytes : List ℕ) : Type 0 where
+-- The hashes that a body carries, its files, and its length are those of its bytes.
+pub record IsBody (running : Option Running) (hashed : Option Behind) (written : Option (Result (List ℕ) Error)) (read : Option (List ℕ)) (len : ℕ) (bytes : List ℕ) : Type 0 where
   pub carries : HoldsIfCarried running bytes
   pub behind : HoldsBehind hashed bytes
   pub filed : IfSome written (λ outcome. IfOk outcome (λ file. file ≡ bytes))
+  pub same : IfSome read (λ files. files ≡ bytes)
   pub counted : len ≡ length bytes

@@ -1,6 +1,7 @@
 pub mod Room
 pub mod Running
 pub mod Hashing
+pub mod InFiles
 pub mod Fronts
 pub mod Body
 pub mod Segments

@@ -1,5 +1,5 @@
 -- Which bytes the hashes of a session and of a body hold.
-use Rattle.std.specs.Prelude.{ℕ, List, Option, Some, None, ⊤, ◌≡◌, ◌≤◌, ◌++◌, length, take}
+use Rattle.std.specs.Prelude.{ℕ, List, Option, Some, None, ⊤, ◌≡◌, ◌≤◌, ◌++◌, length, take, IfSome}
 use Rattle.upload_names.specs.declared.digest.Algorithm.{Algorithm as By}
 use Rattle.upload_names.specs.declared.digest.Algorithm.TheVariants.{Sha256, Sha512}
 use Rattle.upload_bytes.specs.declared.prefix_hash.PrefixHash.{PrefixHash}
@@ -25,8 +25,9 @@ HoldsIfAny None parts = ⊤
 HoldsIfAny (Some hash) parts = (by : By) × HoldsPrefix by parts hash
 
 -- The bytes of a body that is still being read: the hash, if there is one, holds the first ones of its parts, and the
--- file, if there is one, has the first ones.
-pub record IsBuilt (hash : Option PrefixHash) (file : Option PrefixFile) (len : ℕ) (parts : List (List ℕ)) (last : List ℕ) : Type 0 where
+-- file, if there is one, has the first ones; what was read of files, if that is known, are just these bytes.
+pub record IsBuilt (hash : Option PrefixHash) (file : Option PrefixFile) (reading : Option (List ℕ)) (len : ℕ) (parts : List (List ℕ)) (last : List ℕ) : Type 0 where
   pub holds : HoldsIfAny hash parts
   pub has : HasIfAny file parts
+  pub read : IfSome reading (λ bytes. bytes ≡ concat parts ++ last)
   pub counted : len ≡ length (concat parts ++ last)

@@ -7,16 +7,15 @@ ghost use Rattle.upload_bytes.specs.Body.{bytes_in};
 
 use crate::before::Before;
 use crate::body::{Body, Pieces};
-use crate::filed::FilePart;
 use crate::granted::Granted;
+use crate::in_files::InFiles;
 use crate::part::Part;
 use crate::received::Received;
 use crate::room::Grant;
-use crate::segments::{Segments, size_of};
+use crate::segments::Segments;
 use crate::shared::BlobBytes;
 use crate::shares::Shares;
-use crate::spool::SyncedFile;
-use crate::stretch::{Stretch, share_parts_into};
+use crate::stretch::{Stretch, all_here, len_in, share_all_into};
 use std::alloc::{AllocError, Global};
 use std::marker::Model;
 use upload_names::Bytes;
@@ -25,28 +24,27 @@ use upload_names::Bytes;
 /// good part of what the blob takes in all.
 const SMALL_SIZE: usize = 4_096;
 
-/// What a session received, and the last body behind it: its parts, and what came behind them; or its file alone.
+/// What a session received, and the last body behind it: its stretches, the last of them apart.
 #[derive(Drop)]
 pub struct Several {
     pub before: Before,
-    pub parts: Vec<Part>,
+    pub stretches: Vec<Stretch>,
     pub last: Stretch,
 }
 
 impl Several {
-    /// A last body alone, in a place where nothing has come before it yet. Of one that has a file the file is kept.
+    /// A last body alone, in a place where nothing has come before it yet. Of one that is in files these are kept.
     pub fn of(alloc: Global, body: Body) -> Result<Box<Several>, AllocError>
         ensures { IfOk result (λ place. body_in (box_value place) ≡ body) }
     {
-        let len = body.len();
-        let (pieces, file) = body.into_filed();
-        let (parts, last) = stretch_of(alloc, pieces, file, len)?;
+        let (pieces, files) = body.into_filed();
+        let (stretches, last) = stretches_of(alloc, pieces, files)?;
         let before = Before::Here(Segments::new(alloc));
         match Box::new(
             alloc,
             Several {
                 before,
-                parts,
+                stretches,
                 last,
             },
         ) {
@@ -56,36 +54,23 @@ impl Several {
     }
 }
 
-/// The parts of a body, and what came behind them; or no part and its file, if one has all its bytes. Those are let go
-/// then.
-fn stretch_of(
+/// The stretches of a body, the last of them apart: its files, if these have all its bytes, which are let go then; or
+/// its parts, and what came behind them.
+fn stretches_of(
     alloc: Global,
     pieces: Pieces,
-    file: Option<SyncedFile>,
-    len: usize,
-) -> Result<(Vec<Part>, Stretch), AllocError>
-    requires len { len ≡ length (bytes_in pieces) }
-    requires filed { IfSome file (λ file. file ≡ bytes_in pieces) }
-    ensures { IfOk result (λ parts. concat parts.0.items ++ parts.1 ≡ bytes_in pieces) }
+    files: Option<InFiles>,
+) -> Result<(Vec<Stretch>, Stretch), AllocError>
+    requires { IfSome files (λ files. files ≡ bytes_in pieces) }
+    ensures { IfOk result (λ all. concat all.0.items ++ all.1 ≡ bytes_in pieces) }
 {
-    if let Some(file) = file {
-        let stretch = filed(alloc, file, len as u64)?;
-        return Ok((Vec::new(alloc), stretch));
+    if let Some(files) = files {
+        return Ok(files.into_stretches());
     }
     let Pieces { parts, last } = pieces;
+    let stretches = all_here(alloc, parts)?;
     match Part::of(alloc, last) {
-        Ok(last) => Ok((parts, Stretch::here(last))),
-        Err(_) => Err(AllocError),
-    }
-}
-
-/// All bytes of a file, which are so many.
-fn filed(alloc: Global, file: SyncedFile, len: u64) -> Result<Stretch, AllocError>
-    requires { len ≡ length file }
-    ensures { IfOk result (λ stretch. stretch ≡ file) }
-{
-    match FilePart::of(alloc, file, len) {
-        Ok(part) => Ok(Stretch::filed(part)),
+        Ok(last) => Ok((stretches, Stretch::here(last))),
         Err(_) => Err(AllocError),
     }
 }
@@ -144,7 +129,7 @@ impl Blob {
         ensures { result ≡ whole segments ++ body_in (box_value place) }
     {
         segments.shrink();
-        if place.parts.is_empty() {
+        if place.stretches.is_empty() {
             if place.last.len() == 0 {
                 segments.hand_over(&mut place.last);
             }
@@ -177,19 +162,19 @@ impl Blob {
         }
     }
 
-    /// A blob of one body, which is moved and not copied. Of one that has a file the file is kept.
+    /// A blob of one body, which is moved and not copied. Of one that is in files these are kept.
     pub fn of(alloc: Global, body: Body) -> Result<Blob, AllocError>
         ensures { IfOk result (λ blob. blob ≡ body) }
     {
         let size = body.len();
-        let (Pieces { parts, last }, file) = body.into_filed();
-        if parts.is_empty() && size <= SMALL_SIZE && file.is_none() {
+        let (Pieces { parts, last }, files) = body.into_filed();
+        if parts.is_empty() && size <= SMALL_SIZE && files.is_none() {
             return Ok(Blob {
                 shape: Shape::Small(last),
             });
         }
-        let (parts, last) = stretch_of(alloc, Pieces { parts, last }, file, size)?;
-        if parts.is_empty() {
+        let (stretches, last) = stretches_of(alloc, Pieces { parts, last }, files)?;
+        if stretches.is_empty() {
             return Ok(Blob {
                 shape: Shape::One(last),
             });
@@ -199,7 +184,7 @@ impl Blob {
             alloc,
             Several {
                 before,
-                parts,
+                stretches,
                 last,
             },
         ) {
@@ -228,7 +213,9 @@ impl Blob {
             Shape::One(last) => last.keep_in(shares),
             Shape::Several(several) => {
                 several.before.keep_in(shares);
-                shares.add(several.parts.as_slice());
+                for stretch in &several.stretches {
+                    stretch.keep_in(shares);
+                }
                 several.last.keep_in(shares);
             }
         }
@@ -265,17 +252,17 @@ fn len_of(several: &Several) -> u64
     requires { length (before_last several.now) + length (body_in several.now) < 2 ^ 64 }
     ensures { result ≡ length (before_last several.now) + length (body_in several.now) }
 {
-    several.before.len() + size_of(several.parts.as_slice()) + several.last.len()
+    several.before.len() + len_in(several.stretches.as_slice()) + several.last.len()
 }
 
 /// The bytes of segments and a last body: all are shared but the last segment, which is copied.
 fn share_parts(alloc: Global, several: &Several) -> Result<BlobBytes, AllocError>
     ensures { IfOk result (λ bytes. bytes ≡ before_last several.now ++ body_in several.now) }
 {
-    let behind = several.parts.as_slice();
+    let behind = several.stretches.as_slice();
     let mut stretches = several.before.share(alloc)?;
     stretches.reserve(behind.len().saturating_add(1))?;
-    share_parts_into(&mut stretches, behind)?;
+    share_all_into(&mut stretches, behind)?;
     stretches.push(several.last.share()?)?;
     Ok(BlobBytes::of_stretches(stretches))
 }

@@ -10,16 +10,18 @@ ghost use Rattle.upload_bytes.specs.Prefixes.{HoldsIfAny};
 ghost use Rattle.upload_bytes.specs.Spools.{HasIfAny};
 ghost use Rattle.upload_bytes.specs.Segments.{whole};
 
+use crate::filed::FilePart;
 use crate::filing::PrefixFile;
 use crate::front::Front;
 use crate::granted::Granted;
 use crate::hashing::{HashPlace, Running};
+use crate::in_files::{InFiles, Reading};
 use crate::part::{Part, share_all, take_in};
 use crate::prefix_hash::PrefixHash;
 use crate::room::{Grant, Room};
 use crate::segments::Segments;
 use crate::shares::Shares;
-use crate::spool::SyncedFile;
+use crate::spool::{Spool, SyncedFile};
 use sha2::{Digest, Sha256, Sha512};
 use std::alloc::{AllocError, Global};
 use std::marker::Model;
@@ -53,6 +55,8 @@ pub struct Body {
     behind: Option<Box<Behind>>,
     /// A file that has all the bytes, if they were written as they came, or why it hasn't.
     filed: Option<io::Result<SyncedFile>>,
+    /// The files that all the bytes were read of, if they were.
+    files: Option<InFiles>,
 }
 
 impl Model for Body {
@@ -66,7 +70,7 @@ impl Model for Body {
     ghost view = { λ a. bytes_in a.pieces };
 
     ghost invariant = { λ a. IsBody (option_map box_value a.running) (option_map box_value a.behind)
-        a.filed a.len (bytes_in a.pieces) };
+        a.filed a.files a.len (bytes_in a.pieces) };
 }
 
 impl Body {
@@ -85,6 +89,7 @@ impl Body {
             running: None,
             behind: None,
             filed: None,
+            files: None,
         }
     }
 
@@ -99,6 +104,7 @@ impl Body {
             running: None,
             behind: None,
             filed: None,
+            files: None,
         }
     }
 
@@ -114,6 +120,7 @@ impl Body {
             running,
             behind: _,
             filed,
+            files,
         } = self;
         let hash = front.hash().with_parts(pieces.parts.as_slice());
         let hash = hash.with(pieces.last.as_slice());
@@ -123,6 +130,7 @@ impl Body {
             running,
             behind: boxed(alloc, Behind { front, hash }),
             filed,
+            files,
         }
     }
 
@@ -143,6 +151,7 @@ impl Body {
             running: _,
             behind,
             filed,
+            files,
         } = self;
         Body {
             pieces,
@@ -150,6 +159,7 @@ impl Body {
             running: boxed(alloc, hash.copy()),
             behind,
             filed,
+            files,
         }
     }
 
@@ -267,6 +277,7 @@ impl Body {
             running,
             behind,
             filed,
+            files,
         } = self;
         // It covers such parts too, with which the last piece goes.
         let uncounted = uncounted_of(parts.as_slice()).saturating_add(last.len() as u64);
@@ -277,17 +288,28 @@ impl Body {
             running,
             behind,
             filed,
+            files,
         })
     }
 
-    /// Its pieces, which are moved and not copied, and the file that has all its bytes, if a shelf gave one a number.
-    /// Another file goes here.
-    pub fn into_filed(self) -> (Pieces, Option<SyncedFile>)
+    /// Its pieces, which are moved and not copied, and the files that have all its bytes: those that it was read of, or
+    /// the one that it was written into, if a shelf gave that a number. Another file goes here.
+    pub(crate) fn into_filed(self) -> (Pieces, Option<InFiles>)
         ensures pieces { bytes_in result.0 ≡ self }
-        ensures filed { IfSome result.1 (λ file. file ≡ self) }
+        ensures files { IfSome result.1 (λ files. files ≡ self) }
     {
-        let Body { pieces, filed, .. } = self;
-        (pieces, numbered(filed))
+        let Body {
+            pieces,
+            len,
+            filed,
+            files,
+            ..
+        } = self;
+        if files.is_some() {
+            return (pieces, files);
+        }
+        let files = in_one(&pieces, filed, len as u64);
+        (pieces, files)
     }
 
     /// Its pieces, which are moved and not copied.
@@ -299,15 +321,25 @@ impl Body {
     }
 }
 
-/// The file, if there is one that a shelf gave a number.
-fn numbered(filed: Option<Result<SyncedFile, io::Error>>) -> Option<SyncedFile>
-    ensures { (bytes : List ℕ) → IfSome filed (λ filed. IfOk filed (λ file. file ≡ bytes))
-        → IfSome result (λ file. file ≡ bytes) }
+/// The file that has all bytes of these pieces, if a shelf gave it a number. None if there is no memory.
+fn in_one(
+    pieces: &Pieces,
+    filed: Option<Result<SyncedFile, io::Error>>,
+    len: u64,
+) -> Option<InFiles>
+    requires filed { IfSome filed (λ filed. IfOk filed (λ file. file ≡ bytes_in pieces.now)) }
+    requires len { len ≡ length (bytes_in pieces.now) }
+    ensures { IfSome result (λ files. files ≡ bytes_in pieces.now) }
 {
     let Some(Ok(file)) = filed else {
         return None;
     };
-    if file.has_number() { Some(file) } else { None }
+    if !file.has_number() {
+        return None;
+    }
+    let alloc = *pieces.parts.allocator();
+    let part = FilePart::of(alloc, file, len).ok()?;
+    Some(InFiles::of(alloc, part))
 }
 
 /// A hash in a place of its own. Without memory for that it is dropped: who needs it hashes again.
@@ -369,6 +401,8 @@ pub struct BodyBuilder {
     file: Option<PrefixFile>,
     /// What its whole parts are granted of, if there is a limit.
     room: Option<Room>,
+    /// The same bytes, as they were read of files. None if there was no memory for that.
+    reading: Option<Reading>,
 }
 
 impl Model for BodyBuilder {
@@ -381,7 +415,7 @@ impl Model for BodyBuilder {
 
     ghost view = { λ a. concat a.parts.items ++ a.last };
 
-    ghost invariant = { λ a. IsBuilt a.hash a.file a.size a.parts.items a.last };
+    ghost invariant = { λ a. IsBuilt a.hash a.file a.reading a.size a.parts.items a.last };
 }
 
 impl BodyBuilder {
@@ -416,6 +450,7 @@ impl BodyBuilder {
             hash,
             file: None,
             room,
+            reading: Some(Reading::none()),
         }
     }
 
@@ -443,8 +478,21 @@ impl BodyBuilder {
         } else {
             self.last.extend(piece)?;
             self.size = len;
+            let reading = self.reading.take();
+            self.reading = with_piece(reading, piece);
         }
         Ok(())
+    }
+
+    /// Notes that what came since the last such note is all of a file: of the one to which the shelf of this spool gave
+    /// this number. If all bytes of a body were read of such files, a blob of them is kept in these. Nothing that is
+    /// seen changes.
+    pub fn note_file(&mut self, spool: &Spool, number: u64)
+        ensures { self.new ≡ self.old }
+    {
+        if let Some(reading) = self.reading.take() {
+            self.reading = reading.ended(self.alloc, spool, number);
+        }
     }
 
     /// Makes a part of what came behind the last one and a prefix of a piece, and has the rest of the piece come behind
@@ -469,6 +517,8 @@ impl BodyBuilder {
                     unreachable!();
                 };
                 self.size = len;
+                let reading = self.reading.take();
+                self.reading = with_piece(with_piece(reading, front), rest);
                 Ok(())
             }
             Err(back) => {
@@ -503,6 +553,7 @@ impl BodyBuilder {
             size,
             hash,
             file,
+            reading,
             ..
         } = self;
         parts.shrink_to_fit();
@@ -512,14 +563,32 @@ impl BodyBuilder {
             None => None,
         };
         let filed = place.put_down(alloc, file, parts.as_slice(), last.as_slice());
+        let files = files_of(reading, parts.as_slice(), last.as_slice());
         Body {
             pieces: Pieces { parts, last },
             len: size,
             running,
             behind: None,
             filed,
+            files,
         }
     }
+}
+
+/// What was read of files, and a piece behind it.
+fn with_piece(reading: Option<Reading>, piece: &[u8]) -> Option<Reading>
+    ensures { (bytes : List ℕ) → IfSome reading (λ reading. reading ≡ bytes)
+        → IfSome result (λ reading. reading ≡ bytes ++ piece.now) }
+{
+    reading?.and(piece)
+}
+
+/// The files that all was read of.
+fn files_of(reading: Option<Reading>, parts: &[Part], last: &[u8]) -> Option<InFiles>
+    requires { IfSome reading (λ reading. reading ≡ concat parts.now ++ last.now) }
+    ensures { IfSome result (λ files. files ≡ concat parts.now ++ last.now) }
+{
+    reading?.into_files()
 }
 
 /// A part of these bytes, granted of a room if there is one. An `Err` gives the bytes back.

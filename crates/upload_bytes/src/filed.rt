@@ -1,7 +1,7 @@
 //! Bytes that are in a file, and not in memory.
-ghost use Rattle.std.specs.Prelude.{◌≡◌, ◌<◌, ◌≤◌, ◌-◌, length, take, drop, min, IfOk, IfErr};
+ghost use Rattle.std.specs.Prelude.{◌≡◌, ◌<◌, ◌≤◌, ◌-◌, length, take, drop, min, IfOk, IfErr, IfSome};
 
-use crate::spool::SyncedFile;
+use crate::spool::{Spool, SyncedFile};
 use http_wire::{Excerpt, Given};
 use std::alloc::{AllocError, Global};
 use std::fs;
@@ -42,6 +42,21 @@ impl FilePart {
         }
     }
 
+    /// All bytes of the file to which the shelf of this spool gave this number: it was given these, which are so many.
+    pub(crate) fn numbered(
+        alloc: Global,
+        spool: &Spool,
+        number: u64,
+        given: Given,
+        len: u64,
+    ) -> Option<FilePart>
+        requires { len ≡ length given }
+        ensures { IfSome result (λ part. part ≡ given) }
+    {
+        let file = SyncedFile::numbered(spool, number, given)?;
+        FilePart::of(alloc, file, len).ok()
+    }
+
     /// One more owner of the same file. It takes no memory. An `Err` comes only if there are more owners than can be
     /// counted.
     pub fn share(&self) -> Result<FilePart, AllocError>
@@ -69,13 +84,24 @@ impl FilePart {
         self.file.given()
     }
 
+    /// The file, open to be read, if it can be.
+    fn open(&self) -> Option<fs::File> {
+        match self.file.open(self.alloc) {
+            Ok(file) => Some(file),
+            Err(error) => {
+                self.file.tell(self.alloc, &error);
+                None
+            }
+        }
+    }
+
     /// Has it read. The file is opened, and there is memory for a piece of it; if not, nothing will come.
     pub fn read(&self) -> FileReader<'_>
         ensures { result ≡ record { whole = self.now; at = 0; len = 0 } }
     {
         FileReader {
             part: self,
-            file: self.file.open(self.alloc).ok(),
+            file: self.open(),
             piece: buffer_of(self.alloc, self.len),
             came: 0,
             at: 0,
@@ -96,8 +122,8 @@ fn buffer_of(alloc: Global, len: u64) -> Vec<u8> {
     }
 }
 
-/// Reads so many bytes behind an offset into the front of a piece. Says how many came: all of them, or none.
-fn fill(file: &Option<fs::File>, piece: &mut Vec<u8>, at: u64, len: usize) -> usize
+/// Reads so many bytes of a part behind an offset into the front of a piece. Says how many came: all of them, or none.
+fn fill(part: &FilePart, file: &Option<fs::File>, piece: &mut Vec<u8>, at: u64, len: usize) -> usize
     ensures fits { result ≤ len }
     ensures has { result ≤ length piece.new.items }
 {
@@ -109,7 +135,10 @@ fn fill(file: &Option<fs::File>, piece: &mut Vec<u8>, at: u64, len: usize) -> us
     }
     match file.read_exact_at(&mut piece.as_mut_slice()[..len], at) {
         Ok(()) => len,
-        Err(_) => 0,
+        Err(error) => {
+            part.file.tell(part.alloc, &error);
+            0
+        }
     }
 }
 
@@ -147,7 +176,7 @@ impl<'a> FileReader<'a> {
         } }
     {
         let len = (self.part.len() - at).min(PIECE as u64) as usize;
-        self.came = fill(&self.file, &mut self.piece, at, len);
+        self.came = fill(self.part, &self.file, &mut self.piece, at, len);
         self.at = at;
         self.len = len;
     }

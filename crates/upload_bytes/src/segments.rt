@@ -9,11 +9,10 @@ ghost use Rattle.upload_bytes.specs.Segments.{with_part, whole};
 
 use crate::before::{Before, KeptSegments};
 use crate::body::{Body, Pieces};
-use crate::filed::FilePart;
 use crate::granted::Granted;
+use crate::in_files::InFiles;
 use crate::part::Part;
 use crate::room::Grant;
-use crate::spool::SyncedFile;
 use crate::stretch::{Stretch, share_parts_into};
 use std::alloc::{AllocError, Global};
 use std::marker::Model;
@@ -30,7 +29,7 @@ pub struct Segments {
     settled: Vec<Part>,
     /// The last segment, which small bodies are joined to. It is empty if there is none.
     tail: Granted,
-    /// The bytes of these once more, for a blob: those of a body that came with a file are in that file, and others in
+    /// The bytes of these once more, for a blob: those of a body that is in files are in these, and others in
     /// their parts, which are shared. None if there was no memory for that.
     stretches: Option<Vec<Stretch>>,
     /// How many bytes there are in all.
@@ -117,9 +116,9 @@ impl Segments {
         ensures err { OnErr result (self.new ≡ self.old) }
     {
         let size = body.len();
-        let (pieces, file) = body.into_filed();
+        let (pieces, files) = body.into_filed();
         if !pieces.parts.is_empty() || size > JOINED_SIZE {
-            return self.settle(pieces, file, size);
+            return self.settle(pieces, files, size);
         }
         if self.tail.len() > JOINED_SIZE.saturating_sub(size) {
             return self.roll_over(pieces, size);
@@ -168,11 +167,11 @@ impl Segments {
     fn settle(
         &mut self,
         body: Pieces,
-        file: Option<SyncedFile>,
+        files: Option<InFiles>,
         size: usize,
     ) -> Result<(), AllocError>
         requires size { size ≡ length (bytes_in body) }
-        requires filed { IfSome file (λ file. file ≡ bytes_in body) }
+        requires filed { IfSome files (λ files. files ≡ bytes_in body) }
         requires fits { length (whole self.old) + size < 2 ^ 64 }
         ensures more { OnOk result (whole self.new ≡ whole self.old ++ bytes_in body) }
         ensures front { OnOk result
@@ -189,8 +188,7 @@ impl Segments {
         settle_tail(self.alloc, &mut self.settled, &mut self.tail)?;
         let stretches = mem::replace(&mut self.stretches, None);
         let stretches = with_parts(stretches, had, self.settled.as_slice());
-        let file = filed(self.alloc, file, size as u64);
-        self.stretches = settle_body(&mut self.settled, parts, last, stretches, file);
+        self.stretches = settle_body(&mut self.settled, parts, last, stretches, files);
         self.total += size as u64;
         Ok(())
     }
@@ -219,18 +217,6 @@ impl Segments {
     }
 }
 
-/// All bytes of a file, which are so many. None if there is no memory.
-fn filed(alloc: Global, file: Option<SyncedFile>, len: u64) -> Option<Stretch>
-    requires { IfSome file (λ file. len ≡ length file) }
-    ensures { (bytes : List ℕ) → IfSome file (λ file. file ≡ bytes)
-        → IfSome result (λ stretch. stretch ≡ bytes) }
-{
-    match FilePart::of(alloc, file?, len) {
-        Ok(part) => Some(Stretch::filed(part)),
-        Err(_) => None,
-    }
-}
-
 /// Stretches of the first so many parts, and of those behind them, which are shared. None if there is no memory.
 fn with_parts(stretches: Option<Vec<Stretch>>, had: usize, parts: &[Part]) -> Option<Vec<Stretch>>
     requires { had ≤ length parts.now }
@@ -244,38 +230,38 @@ fn with_parts(stretches: Option<Vec<Stretch>>, had: usize, parts: &[Part]) -> Op
     }
 }
 
-/// Stretches and one more behind them. None if there is no memory.
-fn with_stretch(stretches: Option<Vec<Stretch>>, stretch: Stretch) -> Option<Vec<Stretch>>
+/// Stretches, and files behind them. None if there is no memory.
+fn with_files(stretches: Option<Vec<Stretch>>, files: InFiles) -> Option<Vec<Stretch>>
     ensures { (before : List ℕ) → IfSome stretches (λ before'. concat before'.items ≡ before)
-        → IfSome result (λ all. concat all.items ≡ before ++ stretch) }
+        → IfSome result (λ all. concat all.items ≡ before ++ files) }
 {
     let mut stretches = stretches?;
-    match stretches.push(stretch) {
-        Ok(()) => Some(stretches),
-        Err(_) => None,
-    }
+    let (mut behind, last) = files.into_stretches();
+    stretches.append(&mut behind).ok()?;
+    stretches.push(last).ok()?;
+    Some(stretches)
 }
 
-/// Puts a body behind parts, and behind the stretches of these: its file, if it has one, else its own parts, which are
-/// shared. Gives those stretches. None if there is no memory.
+/// Puts a body behind parts, and behind the stretches of these: its files, if it is in some, else its own parts, which
+/// are shared. Gives those stretches. None if there is no memory.
 fn settle_body(
     settled: &mut Vec<Part>,
     parts: Vec<Part>,
     last: Part,
     stretches: Option<Vec<Stretch>>,
-    file: Option<Stretch>,
+    files: Option<InFiles>,
 ) -> Option<Vec<Stretch>>
     requires { vec_len settled.old + vec_len parts + 1 ≤ vec_capacity settled.old }
     ensures items { settled.new.items ≡ with_part (settled.old.items ++ parts.items) last }
     ensures same { IfSome stretches (λ before. concat before.items ≡ concat settled.old.items)
-        → IfSome file (λ file. file ≡ concat parts.items ++ last)
+        → IfSome files (λ files. files ≡ concat parts.items ++ last)
         → IfSome result (λ all. concat all.items ≡ concat settled.new.items) }
 {
     let had = settled.len();
     settle_all(settled, parts);
     settle(settled, last);
-    match file {
-        Some(file) => with_stretch(stretches, file),
+    match files {
+        Some(files) => with_files(stretches, files),
         None => with_parts(stretches, had, settled.as_slice()),
     }
 }

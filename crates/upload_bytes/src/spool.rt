@@ -5,20 +5,28 @@ ghost use Rattle.upload_bytes.specs.SpoolFiles.{given_to};
 use http_wire::Given;
 use std::alloc::{AllocError, Global};
 use std::fs::{self, OpenOptions};
-use std::io::{self, ErrorKind, Write};
+use std::io::{self, Eprint, ErrorKind, Write};
 use std::marker::Model;
 use std::os::fd::AsRawFd;
 use std::os::unix::fs::OpenOptionsExt;
 use std::sync::Arc;
 use std::sync::atomic::{AtomicU64, Ordering};
+use std::time::Instant;
 
 /// How many folders a shelf has: the low byte of its number says in which of them a file is.
-const FOLDERS: u64 = 256;
+pub const FOLDERS: u64 = 256;
+
+/// The folder of a shelf's spool, within it.
+pub const SPOOL: &str = "new";
+
+/// How long it is at least from one line about files that can't be read to the next, in seconds.
+const PAUSE_SECONDS: u64 = 60;
 
 /// Where files are made.
 #[derive(Drop)]
 enum Folder {
-    Disk { rt: HostRuntime, path: String },
+    /// In the folder `new` of the shelf at this path.
+    Disk { rt: HostRuntime, shelf: String },
     /// None is made: their bytes stay in memory, for tests.
     Memory,
 }
@@ -29,6 +37,10 @@ struct Shared {
     folder: Folder,
     /// The number of the next file.
     next: AtomicU64,
+    /// Since when seconds are counted. Without a clock it is told once of files that can't be read.
+    start: Option<Instant>,
+    /// From which of these seconds on it may be told again.
+    due: AtomicU64,
 }
 
 /// A folder for files that have no name of their own yet. It has several owners, in any threads.
@@ -134,19 +146,25 @@ impl Drop for SyncedFile {
 }
 
 impl Spool {
-    /// A spool in the folder at this path, in which nothing else stands.
-    pub fn in_folder(rt: &HostRuntime, path: String) -> Result<Spool, AllocError> {
-        Spool::of(rt.alloc(), Folder::Disk { rt: *rt, path })
+    /// A spool in the folder `new` of the shelf at this path, in which nothing else stands.
+    pub fn in_shelf(rt: &HostRuntime, shelf: String) -> Result<Spool, AllocError> {
+        let start = Instant::now(rt).ok();
+        Spool::of(rt.alloc(), Folder::Disk { rt: *rt, shelf }, start)
     }
 
     /// A spool whose files are in memory.
     pub fn in_memory(alloc: Global) -> Result<Spool, AllocError> {
-        Spool::of(alloc, Folder::Memory)
+        Spool::of(alloc, Folder::Memory, None)
     }
 
-    fn of(alloc: Global, folder: Folder) -> Result<Spool, AllocError> {
-        let next = AtomicU64::new(0);
-        match Arc::new(alloc, Shared { folder, next }) {
+    fn of(alloc: Global, folder: Folder, start: Option<Instant>) -> Result<Spool, AllocError> {
+        let shared = Shared {
+            folder,
+            next: AtomicU64::new(0),
+            start,
+            due: AtomicU64::new(0),
+        };
+        match Arc::new(alloc, shared) {
             Ok(shared) => Ok(Spool { shared }),
             Err(_) => Err(AllocError),
         }
@@ -184,7 +202,7 @@ impl Spool {
     /// Where the file is that it made under this number.
     fn path_of(&self, alloc: Global, made: u64) -> io::Result<String> {
         match &self.shared.folder {
-            Folder::Disk { path, .. } => Ok(format!(in alloc; "{path}/{made}")?),
+            Folder::Disk { shelf, .. } => Ok(format!(in alloc; "{shelf}/{SPOOL}/{made}")?),
             Folder::Memory => Err(ErrorKind::NotFound.into()),
         }
     }
@@ -193,9 +211,26 @@ impl Spool {
     fn path_under(&self, alloc: Global, number: u64) -> io::Result<String> {
         let low = number % FOLDERS;
         match &self.shared.folder {
-            Folder::Disk { path, .. } => { Ok(format!(in alloc; "{path}/../{low:02x}/{number}")?) }
+            Folder::Disk { shelf, .. } => Ok(format!(in alloc; "{shelf}/{low:02x}/{number}")?),
             Folder::Memory => Err(ErrorKind::NotFound.into()),
         }
+    }
+
+    /// Whether it is to be told now that a file can't be read: at most once a minute. Of threads that ask at once one
+    /// tells it.
+    fn tells(&self, rt: &HostRuntime) -> bool {
+        let second = match self.shared.start {
+            Some(start) => start.elapsed(rt).map_or(0, |passed| passed.as_secs()),
+            None => 0,
+        };
+        let due = self.shared.due.load(Ordering::SeqCst);
+        let next = second.saturating_add(PAUSE_SECONDS);
+        due <= second
+            && self
+                .shared
+                .due
+                .compare_exchange(due, next, Ordering::SeqCst, Ordering::SeqCst)
+                .is_ok()
     }
 }
 
@@ -265,6 +300,23 @@ fn closed(place: Place, spool: Spool, made: u64) -> SyncedFile
 }
 
 impl SyncedFile {
+    /// The file to which the shelf of this spool gave this number, and which was given these bytes. It stays as this
+    /// goes. None if the spool is in memory, or has more owners than can be counted.
+    pub(crate) fn numbered(spool: &Spool, number: u64, given: Given) -> Option<SyncedFile>
+        ensures { IfSome result (λ file. file ≡ given) }
+    {
+        let Folder::Disk { rt, .. } = &spool.shared.folder else {
+            return None;
+        };
+        let kept = Kept::Disk {
+            rt: *rt,
+            spool: spool.share().ok()?,
+            made: 0,
+            named: AtomicU64::new(number.saturating_add(1)),
+        };
+        Some(SyncedFile { kept, given })
+    }
+
     /// Where it is. None says that it is in memory.
     pub fn path(&self, alloc: Global) -> io::Result<Option<String>> {
         match &self.kept {
@@ -314,6 +366,19 @@ impl SyncedFile {
         ensures { result.now ≡ self.now }
     {
         &self.given
+    }
+
+    /// Tells people who look on why it can't be read.
+    pub(crate) fn tell(&self, alloc: Global, error: &io::Error) {
+        let Kept::Disk { rt, spool, .. } = &self.kept else {
+            return;
+        };
+        if !spool.tells(rt) {
+            return;
+        }
+        if let Ok(Some(path)) = self.path(alloc) {
+            let _ = eprintln!(rt; "blobd: {path} can't be read: {error}: a reply with it was cut");
+        }
     }
 
     /// The file, open to be read.

@@ -1,11 +1,12 @@
 //! A stretch of the bytes of a blob, wherever they are.
-ghost use Rattle.std.specs.Prelude.{◌≡◌, ◌++◌, ◌<◌, ◌^◌, length, IfOk, IfErr, OnOk, IsTrue, IsFalse};
+ghost use Rattle.std.specs.Prelude.{◌≡◌, ◌++◌, ◌<◌, ◌-◌, ◌^◌, length, min, IfOk, IfErr, OnOk, IsTrue, IsFalse};
+ghost use Rattle.std.specs.List.{concat};
 
 use crate::filed::FilePart;
 use crate::granted::Granted;
 use crate::part::Part;
 use crate::shares::Shares;
-use std::alloc::AllocError;
+use std::alloc::{AllocError, Global};
 use std::marker::Model;
 
 /// Where the bytes of a stretch are.
@@ -100,6 +101,28 @@ impl Stretch {
             Lies::Filed(part) => Ok(Stretch::filed(part.share()?)),
         }
     }
+}
+
+/// Parts that are in memory, as stretches.
+pub fn all_here(alloc: Global, parts: Vec<Part>) -> Result<Vec<Stretch>, AllocError>
+    ensures { IfOk result (λ stretches. stretches.items ≡ parts.items) }
+{
+    let mut stretches = Vec::with_capacity(alloc, parts.len())?;
+    for part in parts {
+        stretches.push(Stretch::here(part))?;
+    }
+    Ok(stretches)
+}
+
+/// How many bytes these have, or the greatest number there is if they have more.
+pub fn len_in(stretches: &[Stretch]) -> u64
+    ensures { result ≡ min (length (concat stretches.now)) (2 ^ 64 - 1) }
+{
+    let mut len: u64 = 0;
+    for stretch in stretches {
+        len = len.saturating_add(stretch.len());
+    }
+    len
 }
 
 /// Puts one more owner of each part behind others. After an `Err` some were put there.

@@ -20,14 +20,14 @@ invariant_of-self-2 c =
     let before : IfSome c.with_parts-stretches.result (λ s. concat s.items ≡ concat mid) =
     subst (λ parts. IfSome c.with_parts-stretches.result (λ s. concat s.items ≡ concat parts)) c.as_slice.ensures.value
     (c.with_parts-stretches.ensures (search (rules, held))) in
-    let file : IfSome c.filed-file.result (λ file. file ≡ concat c.args.body.parts.items ++ c.in-Ok.last) =
-    subst (λ last. IfSome c.filed-file.result (λ file. file ≡ concat c.args.body.parts.items ++ last))
-    (sym c.in-Ok.ensures.ok) (c.filed-file.ensures bytes c.requires.filed) in
+    let files : IfSome c.args.files (λ files. files ≡ concat c.args.body.parts.items ++ c.in-Ok.last) =
+    subst (λ last. IfSome c.args.files (λ files. files ≡ concat c.args.body.parts.items ++ last))
+    (sym c.in-Ok.ensures.ok) c.requires.filed in
     record {
       counted = search (rules, arith, length-append, all);
       same =
           mapped (λ s. s.items) (λ s. concat s ≡ concat new) c.settle_body.result
-          (c.settle_body.ensures.same before file);
+          (c.settle_body.ensures.same before files);
     }
 
 pub returns-clause-more : goal.returns-clause-more
