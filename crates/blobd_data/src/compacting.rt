@@ -327,6 +327,8 @@ fn compact_in<R: Threads, J: Start, N: Start, S: Start, H: Holds>(
     let mut shelf = open_shelf::<S, H>(rt, folder)?;
     refuse_cut(rt, &mut file, &mut shelf)?;
     let none = Vec::new(rt.alloc());
+    // The two services are compared by their bytes.
+    let shelf = shelf.without_spool();
     let shelf = AheadShelf::new(threads, rt.alloc(), shelf, none, most_ahead(memory));
     let mut journal = Journal::new(file, line_of(limits));
     let mut named = Named::new(rt.alloc());

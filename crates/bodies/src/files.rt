@@ -21,7 +21,7 @@ use std::io::{self, ErrorKind};
 use std::marker::PhantomData;
 use std::os::unix::fs::FileExt;
 use std::snapshot::Snapshot;
-use upload_bytes::{Spool, SyncedFile};
+use upload_bytes::{FOLDERS, SPOOL, Spool, SyncedFile};
 
 /// What is supposed of the bodies as a folder is opened. A function over `H: Holds` is proved for all.
 pub trait Holds {
@@ -32,12 +32,6 @@ pub trait Holds {
     ghost is_kept: { ℕ → Bool };
 }
 
-/// How many folders there are: one for each value of a number's low byte.
-const FOLDERS: u64 = 256;
-
-/// The folder of the spool.
-const SPOOL: &str = "new";
-
 /// Bodies in a folder of 256 folders, which the low byte of the number names, so that none is large. `S` stands for a
 /// file that is new, and `H` for the bodies that were there.
 #[derive(Drop)]
@@ -47,7 +41,8 @@ pub struct FolderShelf<S: Start, H: Holds> {
     calls: Notes<Call<Closed<S>>>,
     is_usable: bool,
     counter: Counter,
-    spool: Spool,
+    /// None if what is read stays in memory.
+    spool: Option<Spool>,
     held: PhantomData<H>,
     ghost empty: { S.Start.db ≡ [] },
 }
@@ -72,15 +67,25 @@ impl<S: Start, H: Holds> FolderShelf<S, H> {
         make_empty(rt, spool.as_str())?;
         sync_folder(rt, path.as_str())?;
         folder.sync()?;
+        let shelf = String::from_str(rt.alloc(), path.as_str()).map_err(io::Error::from)?;
         Ok(FolderShelf {
             rt: *rt,
             path,
             calls: Notes::none(),
             is_usable: true,
             counter: Counter::new(rt.alloc()).map_err(io::Error::from)?,
-            spool: Spool::in_folder(rt, spool).map_err(io::Error::from)?,
+            spool: Some(Spool::in_shelf(rt, shelf).map_err(io::Error::from)?),
             held: PhantomData,
         })
+    }
+
+    /// The same shelf, without its spool: what is read of its bodies stays in memory.
+    pub fn without_spool(self) -> FolderShelf<S, H>
+        ensures { (result.calls ≡ self.calls) × (result.is_usable ≡ self.is_usable) }
+    {
+        let mut shelf = self;
+        shelf.spool = None;
+        shelf
     }
 
     /// How many bytes are read of its bodies from now on.
@@ -119,7 +124,9 @@ impl<S: Start, H: Holds> FolderShelf<S, H> {
         match fs::symlink_metadata(&self.rt, to.as_str()) {
             Ok(_) => Err(ErrorKind::AlreadyExists.into()),
             Err(error) if error.kind() == ErrorKind::NotFound => {
-                fs::rename(&self.rt, from.as_str(), to.as_str())
+                fs::rename(&self.rt, from.as_str(), to.as_str())?;
+                file.note_number(number);
+                Ok(())
             }
             Err(error) => Err(error),
         }
@@ -280,7 +287,7 @@ impl<S: Start, H: Holds> Shelf for FolderShelf<S, H> {
     }
 
     fn spool(&self) -> Option<Spool> {
-        self.spool.share().ok()
+        self.spool.as_ref()?.share().ok()
     }
 
     fn name(&mut self, number: u64, file: &SyncedFile) -> Result<(), BodyFault> {
@@ -331,7 +338,7 @@ impl<S: Start, H: Holds> Lends for FolderShelf<S, H> {
     fn lend(&self, number: u64) -> io::Result<BodyReader> {
         let counter = self.counter.share()?;
         let path = self.path_of(number)?;
-        Ok(BodyReader::new(&self.rt, number, path, counter))
+        Ok(BodyReader::new(&self.rt, number, path, counter, self.spool()))
     }
 
     fn take_back(&mut self, reader: BodyReader) {

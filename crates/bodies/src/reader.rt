@@ -6,6 +6,7 @@ use crate::counter::Counter;
 use journal_file::Notes;
 use std::io::{self, Read};
 use std::{fs, mem};
+use upload_bytes::{BodyBuilder, Spool};
 
 /// Where a file stands that is read from its front to its end.
 #[derive(Drop)]
@@ -41,6 +42,8 @@ pub struct BodyReader {
     number: u64,
     source: Source,
     counter: Counter,
+    /// That of its shelf, if what is read of the file may be kept there alone.
+    spool: Option<Spool>,
     /// What came, the last byte first.
     came: Notes<u64>,
     is_over: bool,
@@ -61,7 +64,13 @@ impl BodyReader {
     ghost use Rattle.bodies.specs.Reader.{number_of, bytes_of, is_over};
 
     /// The file of this number, at this path, of which nothing was read.
-    pub(crate) fn new(rt: &HostRuntime, number: u64, path: String, counter: Counter) -> BodyReader
+    pub(crate) fn new(
+        rt: &HostRuntime,
+        number: u64,
+        path: String,
+        counter: Counter,
+        spool: Option<Spool>,
+    ) -> BodyReader
         ensures new { (number_of result ≡ number) × (bytes_of result ≡ []) }
         ensures begins { is_over result ≡ false }
     {
@@ -70,6 +79,7 @@ impl BodyReader {
             number,
             source: Source::At(path),
             counter,
+            spool,
             came: Notes::none(),
             is_over: false,
         }
@@ -79,6 +89,15 @@ impl BodyReader {
         ensures { result ≡ number_of self.now }
     {
         self.number
+    }
+
+    /// Notes that what came last of a body is all of this file, so that a blob of it may be kept in the file.
+    pub(crate) fn note_in(&self, body: &mut BodyBuilder)
+        ensures { body.new ≡ body.old }
+    {
+        if let Some(spool) = &self.spool {
+            body.note_file(spool, self.number);
+        }
     }
 
     /// What came, as it is noted.

@@ -97,7 +97,8 @@ pub trait Shelf {
         ensures clean { IsClean self.new → IsClean self.old };
 
     /// Where files are made that have no number yet, and are written in any thread. A start finds nothing of them. None
-    /// says that there is no memory.
+    /// says that there is no memory, or that none are made. If there is one, a blob is kept in the files that its bodies
+    /// were read of.
     fn spool(&self) -> Option<Spool>;
 
     /// Gives this number to a file of its spool. `Taken` says that the number has a file. A crash may lose the name

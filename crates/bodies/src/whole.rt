@@ -39,7 +39,8 @@ pub struct Wholes {
     pub front: Option<Front>,
 }
 
-/// Puts what a file has behind what was read of it behind a body. None if a read fails or there is no memory.
+/// Puts all that a file has behind a body, which may be kept in that file then. None if a read fails or there is no
+/// memory.
 fn read_rest(reader: &mut BodyReader, body: &mut BodyBuilder) -> Option<()>
     ensures read { IfSome result (λ _. bytes_of reader.old ≡ body.old
         → bytes_of reader.new ≡ body.new) }
@@ -49,6 +50,7 @@ fn read_rest(reader: &mut BodyReader, body: &mut BodyBuilder) -> Option<()>
     for _ in 0..u64::MAX {
         let n = reader.read(&mut piece).ok()?;
         if n == 0 {
+            reader.note_in(body);
             return Some(());
         }
         body.extend(&InPlace, &piece[..n]).ok()?;

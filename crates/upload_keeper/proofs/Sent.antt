@@ -16,6 +16,7 @@ use Rattle.upload_service.specs.contracts.answer.Answer as answer
 use Rattle.upload_bytes.specs.contracts.shared.BlobBytes as blob
 use Rattle.upload_bytes.specs.contracts.filed.FilePart as part
 use Rattle.upload_bytes.specs.contracts.stretch.Stretch as stretch
+use Rattle.upload_bytes.specs.contracts.in_files.InFiles as files
 use Rattle.upload_service.proofs.ask.Extent.TheSendSync as extent
 use Rattle.upload_keeper.specs.contracts.message.Message as message
 use Rattle.upload_keeper.proofs.message.Wish.TheSendSync as wish
@@ -56,8 +57,11 @@ answer_sent =
 heard_sent : IsSend heard.the_row
 heard_sent = search (answer_sent, crossing.crosses, sendable) depth 60 fits 20000
 
+files_sent : IsSend files.the_row
+files_sent = search (stretch_sent, crossing.crosses, sendable) depth 60 fits 20000
+
 body_sent : IsSend body.the_row
-body_sent = search (file_sent, crossing.crosses, sendable) depth 60 fits 20000
+body_sent = search (file_sent, files_sent, crossing.crosses, sendable) depth 60 fits 20000
 
 ask_sent : IsSend ask.the_field.row
 ask_sent =

@@ -27,6 +27,15 @@ fn fault_of(fault: bodies::BodyFault) -> BodyFault
     }
 }
 
+/// Notes that what came last of a body is all of a file, if a blob may be kept in that.
+fn note_file<S: Shelf>(shelf: &S, number: u64, body: &mut BodyBuilder)
+    ensures { body.new ≡ body.old }
+{
+    if let Some(spool) = shelf.spool() {
+        body.note_file(&spool, number);
+    }
+}
+
 impl<S: Shelf> Bodies for Files<S> {
     ghost stands = { λ files. StandsIn S.Shelf.held S.Shelf.IsClean files.shelf };
 
@@ -46,6 +55,7 @@ impl<S: Shelf> Bodies for Files<S> {
                 Err(fault) => return Err(fault_of(fault)),
             };
             if n == 0 {
+                note_file(&self.shelf, number, body);
                 return Ok(());
             }
             if body.extend(&InPlace, &piece[..n]).is_err() {

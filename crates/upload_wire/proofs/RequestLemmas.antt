@@ -25,6 +25,7 @@ use Rattle.http_wire.specs.Faults.{wire_of_input, wire_of_body}
 use Rattle.http_wire.specs.declared.fault.InputFault.{InputFault}
 use Rattle.http_wire.specs.declared.fault.InputFault.TheVariants as Input
 use Rattle.http_wire.specs.declared.fault.BodyFault.{BodyFault}
+use Rattle.http_wire.specs.declared.fault.BodyFault.TheVariants as Body
 use Rattle.http_wire.specs.declared.fault.WireFault.{WireFault}
 use Rattle.http_wire.specs.declared.fault.WireFault.TheVariants as Fault
 use Rattle.upload_wire.specs.declared.request.Described.{Described}
@@ -232,3 +233,10 @@ held_found max old new came n = search (rules, arith)
 pub held_next : (max : ℕ) (old new : InputState) (came : Result Came WireFault) (r : Result Next WireFault)
     → r ≡ held_in came → ReadsNext max old new (came_in came) → ReadsNext max old new r
 held_next max old new came r is n = subst (λ x. ReadsNext max old new x) (sym is) (held_found max old new came n)
+
+-- only a read that failed within a body is told as one of the request
+pub read_of_body : {A : Type 0} (fault : BodyFault) → ◌≡◌ {A = Result A WireFault} (Err (wire_of_body fault)) (Err Fault.Read)
+    → fault ≡ Body.Read
+read_of_body Body.Truncated told = search (rules, told)
+read_of_body Body.Read told = refl
+read_of_body Body.NoMemory told = search (rules, told)

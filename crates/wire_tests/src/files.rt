@@ -201,8 +201,8 @@ fn new_shelf(rt: &HostRuntime) -> Result<Spool, Fail> {
     fs::create_dir(rt, "shelf")?;
     fs::create_dir(rt, "shelf/00")?;
     fs::create_dir(rt, "shelf/new")?;
-    let path = String::from_str(rt.alloc(), "shelf/new")?;
-    Ok(Spool::in_folder(rt, path)?)
+    let path = String::from_str(rt.alloc(), "shelf")?;
+    Ok(Spool::in_shelf(rt, path)?)
 }
 
 #[test]
