@@ -4,7 +4,7 @@ ghost use Rattle.upload_keeper.specs.Safety.{Leads};
 
 use blobd_data::{
     AnyBodies, CompactingFault, Damaged, DataFault, Teller, Watch, compact_if_worth, hint_on,
-    open_data, read_status, stored_beyond, tell_losses, tell_missing,
+    open_data, tell_losses, tell_missing,
 };
 use blobd_serve::{Terms, limits, run_serve, run_serve_kept};
 use blobd_shared::{ByteCount, FAULT, Holding, millis_since, print_line};
@@ -55,7 +55,7 @@ impl fmt::Display for Most {
     }
 }
 
-/// How much a server may hold, as the reason why it can't hold what a directory has: `BLOBD_MEMORY is 24.0 GiB`.
+/// How much a server may hold, as the reason why it can't open a directory: `BLOBD_MEMORY is 24.0 GiB`.
 #[derive(Clone, Copy)]
 struct Limit(Most);
 
@@ -97,80 +97,34 @@ fn print_memory<R: Eprint>(rt: &R, memory: Option<u64>, audience: Audience) {
     };
 }
 
-/// Says what a server has, and how much it may hold.
+/// Says what a server has, and how much of it may be in memory.
 fn print_holding<R: Eprint>(rt: &R, counts: Counts, memory: Option<u64>, limited: bool) {
     let holding = Holding(counts);
     let _ = match memory {
         Some(bytes) => {
             let most = Most { bytes, limited };
-            eprintln!(rt; "blobd: {holding}; it holds at most {most}")
+            eprintln!(rt; "blobd: {holding}; in memory it holds at most {most}")
         }
         None => eprintln!(rt; "blobd: {holding}"),
     };
 }
 
-/// Refuses a data directory if its blobs surely have more bytes than a server may hold, and says so. Nothing in it is
-/// changed, and no body is read.
-fn refuse_too_large<R: Eprint>(
-    rt: &R,
-    host: &HostRuntime,
-    path: &str,
-    memory: Option<u64>,
-    limited: bool,
-) -> bool {
-    let Some(bytes) = memory else {
-        return false;
-    };
-    let Some(stored) = stored_beyond(host, path, limits(), bytes, Wary) else {
-        return false;
-    };
-    let (holds, limit) = (ByteCount(stored), Limit(Most { bytes, limited }));
-    let _ = eprintln!(rt;
-        "blobd: can't use {path}: it holds {holds}, {limit}: set BLOBD_MEMORY to more"
-    );
-    true
-}
-
-/// How many bytes the blobs of a data directory have, and how many its server may hold, if a want of room is why it
-/// can't be used.
-fn too_much(
-    host: &HostRuntime,
-    path: &str,
-    fault: &DataFault,
-    memory: Option<u64>,
-) -> Option<(u64, u64)> {
-    let may = memory?;
-    if !fault.lacks_room() {
-        return None;
-    }
-    let status = read_status(host, path, limits(), Wary).ok()?;
-    Some((status.counts.stored, may))
-}
-
-/// Says why a data directory can't be used, and what to do: if the server may not hold what it has, how much that is.
-/// If it might, a start takes more, maybe for what a compaction leaves out.
+/// Says why a data directory can't be used, and what to do.
 fn print_no_data<R: Eprint>(
     rt: &R,
-    host: &HostRuntime,
     path: &str,
     fault: &DataFault,
     memory: Option<u64>,
     limited: bool,
 ) {
-    let _ = match too_much(host, path, fault, memory) {
-        Some((stored, bytes)) => {
-            let (holds, limit) = (ByteCount(stored), Limit(Most { bytes, limited }));
-            if stored > bytes {
-                eprintln!(rt;
-                    "blobd: can't use {path}: it holds {holds}, {limit}: set BLOBD_MEMORY to more; {fault}"
-                )
-            } else {
-                eprintln!(rt;
-                    "blobd: can't use {path}: it holds {holds}, {limit}, and a start takes more: `blobd compact {path}` may help, or set BLOBD_MEMORY to more; {fault}"
-                )
-            }
+    let _ = match memory {
+        Some(bytes) if fault.lacks_room() => {
+            let limit = Limit(Most { bytes, limited });
+            eprintln!(rt;
+                "blobd: can't use {path}: {limit}, and a start takes more: `blobd compact {path}` may help, or set BLOBD_MEMORY to more; {fault}"
+            )
         }
-        None => eprintln!(rt; "blobd: can't use {path}: {fault}{}", hint_on(fault)),
+        _ => eprintln!(rt; "blobd: can't use {path}: {fault}{}", hint_on(fault)),
     };
 }
 
@@ -270,8 +224,7 @@ where
 }
 
 /// Serves what comes to an address, by the service that is kept in the data directory at `path`; gives the exit status.
-/// The directory is locked and read first, and standard error says what of it is lost. One whose blobs have more bytes
-/// than `terms` let the service hold is refused before that.
+/// The directory is locked and read first, and standard error says what of it is lost.
 ///
 /// `fault: data` is printed if it can't be, or is damaged and to be refused then, and standard error says why.
 pub fn listen_keeping<'a, R>(
@@ -294,9 +247,6 @@ where
         return print_line(&mut out, "fault: memory", FAULT);
     };
     print_small(rt, terms.memory, audience.limited);
-    if refuse_too_large(rt, host, path, terms.memory, audience.limited) {
-        return print_line(&mut out, "fault: data", FAULT);
-    }
     make_room(rt, host, path, terms.memory);
     let opened = open_data::<R, Wary, Wary, AnyBodies, _>(
         Watch {
@@ -314,7 +264,7 @@ where
     let data = match opened {
         Ok(data) => data,
         Err(fault) => {
-            print_no_data(rt, host, path, &fault, terms.memory, audience.limited);
+            print_no_data(rt, path, &fault, terms.memory, audience.limited);
             return print_line(&mut out, "fault: data", FAULT);
         }
     };
