@@ -1,6 +1,6 @@
 #!/usr/bin/env python3
-"""`blobd serve` with a data directory whose disk fails: at each sync and each write of a chunk, under clients, and in a
-start; on a disk that fills, is made larger and fills again; and on one that may only be read.
+"""`blobd serve` with a data directory whose disk fails: at each sync and each write of a chunk, under clients, in a
+start, and at reads for a reply; on a disk that fills, is made larger and fills again; and on one that may only be read.
 
     serve_disks.py PROGRAM
 """
@@ -15,13 +15,15 @@ import time
 from harness import shims
 from harness.data import FILLED, LARGEST_IN_JOURNAL, REFUSED, bodies, filled, is_refused, named_losses, serving, tree
 from harness.pushers import NAME, Pusher, Told, fill, has_all, held, look
-from harness.running import MIB, Repeated, SmallDisk, becomes, run
+from harness.running import MIB, Repeated, SmallDisk, becomes, pull, pulled_until_its_end, run
 from harness.suite import case, check, equal, main, skip
 from harness.wire import Connection, request_text, sha256
 
 WORKERS = 3
 # what standard error says of the call that failed
 FAILED = re.compile(r"blobd: can't keep a change in \S+: (journal|bodies): Input/output error \(os error 5\)\n")
+# and of a file that can't be read for a reply
+UNREAD = re.compile(r"blobd: \S+ can't be read: Input/output error \(os error 5\): a reply with it was cut\n")
 # Chunks that are in a record, in a file of their own, and in a file that is written and synced part by part.
 SIZES = 100, 70_000, 9 * MIB
 
@@ -128,6 +130,27 @@ def each_write_fails():
     counts = [calls_of_a_chunk("write", size) for size in SIZES]
     are_more = 1 < counts[0] < counts[1] < counts[2]
     check("writes of the journal, of a file, and of parts", are_more, counts)
+
+
+@case("cc")
+def a_read_fails(folder):
+    """A reply with a file that can't be opened or read ends before its last byte, and standard error says why. One of
+    which a read comes short is whole. The server goes on, and the next reply is whole."""
+    content = random.Random(1).randbytes(3 * MIB)
+    for call, spared, is_whole in (("open", 0, False), *(("read", spared, False) for spared in range(3)), ("short", 1, True)):
+        name, path = f"{call} {spared}", os.path.join(folder, f"{call}-{spared}")
+        env, fails = failing(folder, path, call, spared)
+        with serving(path, env=env) as server, server.client() as client:
+            equal(f"{name}: a start without a loss", named_losses(server), [])
+            equal(f"{name}: it is stored", client.push(NAME, content)[-1], 201)
+            made(fails)
+            length, came = pulled_until_its_end(server, NAME, sha256(content))
+            check(f"{name}: the call was made", not os.path.exists(fails))
+            equal(f"{name}: the length", length, len(content))
+            check(f"{name}: what comes", content.startswith(came) and (len(came) == length) == is_whole, len(came))
+            equal(f"{name}: the next reply", pull(server, NAME, sha256(content)) == content, True)
+            told = server.told(0.2)
+            check(f"{name}: what is told", UNREAD.fullmatch(told) if not is_whole else not told, told)
 
 
 @case("cc")

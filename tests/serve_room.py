@@ -5,16 +5,15 @@
 """
 import os
 import random
-import re
 import subprocess
 import time
 
 from harness import shims
-from harness.data import bodies, tree
+from harness.data import bodies
 from harness.pushers import NAME, has_all, post
-from harness.running import FULL, MIB, Server, ask_alone, pull, run
+from harness.running import FULL, KIB, MIB, Server, pull, pulled_until_its_end, run
 from harness.suite import OPTIONS, case, check, equal, main
-from harness.wire import PATIENCE, sha256
+from harness.wire import PATIENCE, begun_reply, sha256
 
 ROOM = 12 * MIB
 # what the tables take for a blob, beside its name
@@ -191,62 +190,98 @@ def refused(path, memory, strict="0"):
     return told
 
 
+def in_chunks(server, content, size):
+    """Uploads a blob in chunks of a size, and closes it without a body."""
+    with server.client() as client:
+        place = client.ask("POST", f"/v2/{NAME}/blobs/uploads/").fields["Location"]
+        for at in range(0, len(content), size):
+            place = client.ask("PATCH", place, content[at : at + size]).fields["Location"]
+        return client.ask("PUT", f"{place}?digest={sha256(content)}").status
+
+
 @case()
-def smaller_than_a_directory(folder):
-    """A directory that holds more than the server may is left as it is, and says so. With more room all is there."""
+def larger_than_the_room_in_a_directory(folder):
+    """What is stored in files takes no room: more is stored than the server may hold, and is handed out, also after a
+    start, by whichever requests it came."""
     chance = random.Random(OPTIONS.seed)
     path = os.path.join(folder, "data")
+    sizes = (64 * KIB + 1, 300_000, 4 * MIB - 65, 4 * MIB - 64, 4 * MIB - 63, 5 * MIB + 1)
+    stored = [chance.randbytes(size) for size in sizes * 2]
+    chunked = [chance.randbytes(size) for size in (200_000, 5 * MIB, 9 * MIB)]
+    with serving(BLOBD_DATA=path) as server:
+        with server.client() as client:
+            equal("what comes whole", [post(client, content) for content in stored], [201] * len(stored))
+        for content, size in zip(chunked, (64 * KIB + 1, 2 * MIB, 4 * MIB)):
+            equal(f"what comes in chunks of {size}", in_chunks(server, content, size), 201)
+        has_all("what is stored is handed out", server, stored + chunked)
+    for _ in range(2):
+        with serving(BLOBD_DATA=path) as server:
+            has_all("after a start", server, stored + chunked)
+            more = chance.randbytes(8 * MIB)
+            with server.client() as client:
+                equal("one more", post(client, more), 201)
+            stored.append(more)
+
+
+@case()
+def cut_under_a_server(folder):
+    """A reply with a file that was cut, or is gone, ends before its last byte, and its connection with it. Standard error
+    says so once. The server goes on."""
+    chance = random.Random(OPTIONS.seed)
+    path = os.path.join(folder, "data")
+    content, other = chance.randbytes(3 * MIB), chance.randbytes(2 * MIB)
     with serving(BLOBD_DATA=path) as server, server.client() as client:
-        stored = filled(client, chance, (1_000, 200_000, 500_000))
-    # a start that reads the directory removes it
-    unnamed = os.path.join(path, "bodies", "00", "1048576")
-    os.makedirs(os.path.dirname(unnamed), mode=0o700, exist_ok=True)
-    with open(unnamed, "wb") as file:
-        file.write(b"unnamed")
-    before = tree(path)
-    size = sum(map(len, stored)) * 10 // MIB / 10
+        equal("they are stored", [post(client, content), post(client, other)], [201, 201])
+        server.told(0.2)
+        files = [os.path.join(path, body) for body in bodies(path)]
+        file = next(file for file in files if os.path.getsize(file) == len(content))
+        for left in (3 * MIB - 1, MIB, 1, 0, None):
+            if left is None:
+                os.remove(file)
+            else:
+                os.truncate(file, left)
+            length, came = pulled_until_its_end(server, NAME, sha256(content))
+            equal(f"the length, with {left} bytes left of it", length, len(content))
+            check(f"what comes, with {left} bytes left of it", len(came) < length and content.startswith(came), len(came))
+            equal("a HEAD of it", client.ask("HEAD", f"/v2/{NAME}/blobs/{sha256(content)}").status, 200)
+            equal("another is whole", pull(server, NAME, sha256(other)), other)
+        told = server.told(0.2)
+        check("it is told", told.startswith(f"blobd: {file} can't be read: ") and told.count("\n") == 1, told)
+
+
+@case()
+def stored_again_under_a_pull(folder):
+    """A pull that goes on while its blob is stored again is whole."""
+    content = random.Random(OPTIONS.seed).randbytes(9 * MIB)
+    with serving(BLOBD_DATA=os.path.join(folder, "data"), BLOBD_WORKERS=4) as server, server.client() as client:
+        for _ in range(3):
+            equal("it is stored", post(client, content), 201)
+            with server.client() as puller:
+                puller.connect()
+                puller.send_head("GET", f"/v2/{NAME}/blobs/{sha256(content)}")
+                reply = begun_reply(puller.socket, "GET")
+                came = reply.read(MIB)
+                equal("it is stored again", post(client, content), 201)
+                equal("in chunks too", in_chunks(server, content, 4 * MIB), 201)
+                equal("the pull", came + reply.read(), content)
+
+
+@case()
+def a_start_takes_more_than_there_is(folder):
+    """What has no file takes room. A directory that has more of it than the server may hold is refused, and says so. With
+    more room all is there."""
+    chance = random.Random(OPTIONS.seed)
+    path = os.path.join(folder, "data")
+    stored = [chance.randbytes(100) for _ in range(1_500)]
+    with serving(BLOBD_DATA=path) as server, server.client() as client:
+        equal("small blobs", {post(client, content) for content in stored}, {201})
     for strict in "01":
-        equal("why", refused(path, "6M", strict),
-              f"blobd: can't use {path}: it holds {size} MiB, BLOBD_MEMORY is 6.0 MiB: set BLOBD_MEMORY to more\n")
-        check("nothing in it is changed", tree(path) == before)
+        told = refused(path, "512K", strict)
+        first = f"blobd: can't use {path}: BLOBD_MEMORY is 512.0 KiB, and a start takes more: "
+        check("why, in the first line", told.startswith(f"{first}`blobd compact {path}` may help, or set BLOBD_MEMORY to more; ")
+              and told.endswith("no memory for it\n") and told.count("\n") == 1, told)
     with serving(room="16M", BLOBD_DATA=path) as server:
         has_all("what is stored is handed out", server, stored)
-        equal("one more", ask_alone(
-            server, "POST", f"/v2/{NAME}/blobs/uploads/?digest={sha256(b'more')}", b"more").status, 201)
-        check("with more room it is read", not os.path.exists(unnamed))
-
-
-@case()
-def smaller_than_a_damaged_directory(folder):
-    """One that is damaged is read up to where there is no room: maybe what is left of it fits."""
-    chance = random.Random(OPTIONS.seed)
-    path = os.path.join(folder, "data")
-    with serving(BLOBD_DATA=path) as server, server.client() as client:
-        stored = filled(client, chance, (500_000,))
-    paths = [os.path.join(path, body) for body in bodies(path)]
-    os.remove(paths[0])
-    told = refused(path, "6M")
-    first = re.match(rf"blobd: can't use {path}: it holds \S+ MiB, BLOBD_MEMORY is 6\.0 MiB: set .* to more; ", told)
-    check("why, in the first line", first and "no memory for it" in told and told.count("\n") == 1, told)
-    for body in paths[12:]:
-        os.remove(body)
-    with serving(room="6M", BLOBD_DATA=path) as server:
-        left = [content for content in stored if pull(server, NAME, sha256(content)) == content]
-        equal("what is left of it", len(left), 11)
-
-
-@case()
-def a_start_takes_more_than_its_blobs(folder):
-    """Then a compaction is named too."""
-    chance = random.Random(OPTIONS.seed)
-    path = os.path.join(folder, "data")
-    with serving(BLOBD_DATA=path) as server, server.client() as client:
-        for _ in range(1_500):
-            equal("a small blob", post(client, chance.randbytes(100)), 201)
-    told = refused(path, "512K")
-    first = f"blobd: can't use {path}: it holds 146.4 KiB, BLOBD_MEMORY is 512.0 KiB, and a start takes more: "
-    check("why, in the first line", told.startswith(f"{first}`blobd compact {path}` may help, or set") and told.endswith(
-        "no memory for it\n"), told)
 
 
 @case("cc")

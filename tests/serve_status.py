@@ -22,7 +22,7 @@ from harness.suite import OPTIONS, case, check, equal, main
 from harness.wire import sha256, sha512
 
 # what a start says behind what it has
-AT_MOST = "; it holds at most 1.0 GiB (BLOBD_MEMORY)\n"
+AT_MOST = "; in memory it holds at most 1.0 GiB (BLOBD_MEMORY)\n"
 
 
 def serving(path, env=None, **options):

@@ -24,7 +24,7 @@ FILLED = [b"one", b"two", CONTENTS[-2]]
 # what a start says that it has
 SIZE = r"\d+(?:\.\d)? (?:[KMG]i)?B"
 UNSET = r"three quarters of what it may use, since BLOBD_MEMORY isn't set"
-HOLDS = re.compile(rf"blobd: \d+ blobs?, {SIZE}, \d+ uploads? open; it holds at most {SIZE} \({UNSET}\)\n")
+HOLDS = re.compile(rf"blobd: \d+ blobs?, {SIZE}, \d+ uploads? open; in memory it holds at most {SIZE} \({UNSET}\)\n")
 
 # the head of a batch: four numbers
 HEAD_LEN = 32

@@ -1,6 +1,7 @@
 """Runs the built program: over one connection, and as a server over loopback."""
 import concurrent.futures
 import contextlib
+import http.client
 import multiprocessing
 import os
 import resource
@@ -14,7 +15,7 @@ import time
 import servers
 
 from .suite import OPTIONS
-from .wire import PATIENCE, Client, connected, demand, rest_of, sha256
+from .wire import PATIENCE, Client, begun_reply, connected, demand, rest_of, sha256
 
 KIB, MIB = 1 << 10, 1 << 20
 
@@ -319,3 +320,16 @@ def pull(server, name, digest):
     """The blob, or the status where it isn't there."""
     status, fields, body = ask_alone(server, "GET", f"/v2/{name}/blobs/{digest}")
     return body if status == 200 and fields["Docker-Content-Digest"] == digest else status
+
+
+def pulled_until_its_end(server, name, digest):
+    """The length that the reply with a blob tells, and what comes of it before it ends, or its connection."""
+    with server.client() as client:
+        client.connect()
+        client.send_head("GET", f"/v2/{name}/blobs/{digest}")
+        reply = begun_reply(client.socket, "GET")
+        length = reply.length
+        try:
+            return length, reply.read()
+        except http.client.IncompleteRead as cut:
+            return length, cut.partial

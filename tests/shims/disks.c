@@ -4,12 +4,11 @@
  * that as many bytes as were written. A call that failed is not. One call is made at a time, so that the notes have the
  * order of the calls. */
 #define _GNU_SOURCE
+#include "modes.h"
 #include <dlfcn.h>
 #include <errno.h>
-#include <fcntl.h>
 #include <limits.h>
 #include <pthread.h>
-#include <stdarg.h>
 #include <stdio.h>
 #include <stdlib.h>
 #include <string.h>
@@ -104,15 +103,6 @@ static int opened(int at, const char *path, int flags, mode_t mode) {
     if (!is_new) return syscall(SYS_openat, at, path, flags, mode);
     NAMED(path, syscall(SYS_openat, at, path, flags, mode), "make");
 }
-
-#define MODE_OF(flags)                                                     \
-    mode_t mode = 0;                                                       \
-    if ((flags) & (O_CREAT | O_TMPFILE)) {                                 \
-        va_list rest;                                                      \
-        va_start(rest, flags);                                             \
-        mode = va_arg(rest, mode_t);                                       \
-        va_end(rest);                                                      \
-    }
 
 int open(const char *path, int flags, ...) { MODE_OF(flags) return opened(AT_FDCWD, path, flags, mode); }
 int open64(const char *path, int flags, ...) { MODE_OF(flags) return opened(AT_FDCWD, path, flags | O_LARGEFILE, mode); }
