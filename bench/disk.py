@@ -11,10 +11,10 @@ clients, in which each has a request. These clients are wrk's, and each asks as 
 installed, one thread of Python sends a request of each before it reads a reply, and is slower than the server. A
 request that changes nothing waits beside uploads of four times SIZE: its longest wait, and the longest of a sync beside
 the same. A start is that of a server with a directory that has eight blobs of SIZE, in one body each or in chunks of
-4 MiB, and that of one which was compacted since; `--start-gib` adds one with so many GiB of them, all of which the server
-holds in memory. `blobd compact` has eight blobs of SIZE in one body each, or twenty times COUNT small ones, or as many as
-`--small` says. It is measured beside a start with them, and what it writes of the small ones beside the same bytes written
-one behind another, with a sync at their end, in the same run. `--starts` measures no more than starts and compactions.
+4 MiB, and that of one which was compacted since; `--start-gib` adds one with so many GiB of them. `blobd compact` has
+eight blobs of SIZE in one body each, or twenty times COUNT small ones, or as many as `--small` says. It is measured
+beside a start with them, and what it writes of the small ones beside the same bytes written one behind another, with a
+sync at their end, in the same run. `--starts` measures no more than starts and compactions.
 
 `--syncs` measures no more than small blobs by clients of wrk, with a directory in memory and syncs that take so long
 (tests/shims/slow.c): beside two such syncs for each round of all clients, and with how many changes a round of the
