@@ -199,6 +199,8 @@ def test_an_image_has_the_program_and_what_it_is_loaded_with(folder):
     files = unpacked(folder, "image", OPTIONS.program)
     (image,) = json.loads(files["manifest.json"])
     config, layer = json.loads(files[image["Config"]]), files[image["Layers"][0]]
+    equal("its tag is the version", image["RepoTags"], [f"localhost/blobd:{pack.version()}"])
+    equal("what it runs on", (config["os"], config["architecture"]), ("linux", "amd64"))
     digests = config["rootfs"]["diff_ids"]
     equal("the layer's digest", digests, [f"sha256:{hashlib.sha256(layer).hexdigest()}"])
     with tarfile.open(fileobj=io.BytesIO(layer)) as tar, mock.patch.object(pack, "PROGRAM", OPTIONS.program):

@@ -9,10 +9,10 @@ import random
 import subprocess
 import time
 
-from harness import TOP, shims
+from harness import shims
 from harness.data import CONTENTS, LARGEST_IN_JOURNAL, killed_start, serving, serving_the_rest
 from harness.pushers import NAME, Pusher, Told, close_some, has_all, held, look, post
-from harness.running import MIB, SERVED, Repeated, becomes, pull
+from harness.running import MIB, SERVED, Repeated, becomes, page_lines, pull
 from harness.suite import OPTIONS, case, check, equal, main
 from harness.wire import request_text, sha256, sha512
 
@@ -153,18 +153,12 @@ def killed_at_random(folder):
     print(f"{kills} kills, {len(told.stored)} blobs, {dict(told.done)}")
 
 
-# Before the lines that copy a directory in docs/OPERATIONS.md.
-BACKUP = "<!-- tests/serve_data.py runs these lines -->\n```sh\n"
-
-
 @case()
 def copied_while_it_serves(folder):
     """A copy by the lines of docs/OPERATIONS.md, made while clients push, starts and has all that was told before it
     began: each blob, and each upload at that offset or further on. A client goes on with such an upload."""
     path, copy, told = os.path.join(folder, "data"), os.path.join(folder, "copy"), Told()
-    with open(os.path.join(TOP, "docs", "OPERATIONS.md"), encoding="utf-8") as file:
-        lines = file.read().split(BACKUP)[1].split("```")[0]
-    lines = lines.replace("/var/lib/blobd/5001/data", path).replace("/backup/5001", copy)
+    (lines,) = page_lines("serve_data", {"/var/lib/blobd/5001/data": path, "/backup/5001": copy})
     content = random.Random(3).randbytes(200_000)
     with serving(path, env={"BLOBD_WORKERS": 6}) as server:
         with server.client() as client:

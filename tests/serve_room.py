@@ -13,7 +13,7 @@ from harness.data import bodies
 from harness.pushers import NAME, has_all, post
 from harness.running import FULL, KIB, MIB, Server, pull, pulled_until_its_end, run
 from harness.suite import OPTIONS, case, check, equal, main
-from harness.wire import PATIENCE, begun_reply, sha256
+from harness.wire import PATIENCE, begun_reply, sha256, sha512
 
 ROOM = 12 * MIB
 # what the tables take for a blob, beside its name
@@ -224,6 +224,38 @@ def larger_than_the_room_in_a_directory(folder):
 
 
 @case()
+def an_upload_larger_than_the_room(folder):
+    """The bytes of an open upload leave memory too once they are in files: it may be larger than the room, goes on after
+    a start, and is closed by either digest. Closes that are refused change nothing."""
+    chance = random.Random(OPTIONS.seed)
+    for digest_of, is_killed in ((sha256, False), (sha512, False), (sha256, True), (sha512, True)):
+        path = os.path.join(folder, f"{digest_of.__name__}-{is_killed}")
+        content, size, taken = chance.randbytes(40 * MIB), 2 * MIB + 1, 0
+        place = None
+        while taken < len(content):
+            with serving(BLOBD_DATA=path) as server, server.client() as client:
+                place = place or client.ask("POST", f"/v2/{NAME}/blobs/uploads/").fields["Location"]
+                end = len(content) // 2 if is_killed and taken == 0 else len(content)
+                while taken < end:
+                    chunk = content[taken : taken + size]
+                    statuses = until(202, lambda: client.ask("PATCH", place, chunk).status)
+                    equal(f"a chunk at {taken}", (statuses[-1], set(statuses) <= {202, 503}), (202, True))
+                    taken += len(chunk)
+                wrong = client.ask("PUT", f"{place}?digest={digest_of(b'other')}").status
+                equal("a close by another digest", wrong, 400)
+                at = client.ask("GET", place)
+                equal("how far it is", (at.status, at.fields["Range"]), (204, f"0-{taken - 1}"))
+                if taken == len(content):
+                    equal("the close", client.ask("PUT", f"{place}?digest={digest_of(content)}").status, 201)
+                    equal("the blob", pull(server, NAME, digest_of(content)) == content, True)
+                if is_killed:
+                    server.process.kill()
+                    server.process.wait()
+        with serving(BLOBD_DATA=path) as server:
+            equal("the blob after a start", pull(server, NAME, digest_of(content)) == content, True)
+
+
+@case()
 def cut_under_a_server(folder):
     """A reply with a file that was cut, or is gone, ends before its last byte, and its connection with it. Standard error
     says so once. The server goes on."""
@@ -253,7 +285,7 @@ def cut_under_a_server(folder):
 def stored_again_under_a_pull(folder):
     """A pull that goes on while its blob is stored again is whole."""
     content = random.Random(OPTIONS.seed).randbytes(9 * MIB)
-    with serving(BLOBD_DATA=os.path.join(folder, "data"), BLOBD_WORKERS=4) as server, server.client() as client:
+    with serving(64 * MIB, BLOBD_DATA=os.path.join(folder, "data"), BLOBD_WORKERS=4) as server, server.client() as client:
         for _ in range(3):
             equal("it is stored", post(client, content), 201)
             with server.client() as puller:

@@ -13,24 +13,30 @@ what they are told.
   were taken, joined.
 - The same is done while some allocations of the server are refused at random (tests/shims/growths.c; skipped without a
   C compiler). Then a request may be answered 503, or its connection may end, and nothing else.
+- And with a data directory and little room, so that the bytes of uploads leave memory while clients go on with them. A
+  start has to find the directory whole.
 - At the end all workers have to serve at once, and the server may have printed nothing but its first line.
 
 It ends by itself.
 """
 import collections
 import functools
+import os
 import random
 import subprocess
+import tempfile
 import time
 
 from clients import TRIES, Client
-from harness import running, shims
+from harness import data, running, shims
 from harness.suite import OPTIONS, case, check, equal, main
 from harness.wire import Connection
 
 WORKERS = (1, 2, 8)
 # About one growth in so many is refused, behind those that the server takes before it serves.
 REFUSED_GROWTHS, GROWTHS_BEFORE = 150, 1_000
+# Of a server with a data directory.
+ROOM = 3 * running.MIB
 # Steps of each client at least, so that a slow machine meets as much.
 LEAST_STEPS = 100
 # What the clients have to meet, and some of these if growths are refused.
@@ -59,13 +65,13 @@ def all_serve(server, workers, is_refused):
     return False
 
 
-def soak(workers, is_refused, **settings):
-    """Clients of a server that has so many workers."""
+def soak(workers, is_refused, log=subprocess.STDOUT, **settings):
+    """Clients of a server that has so many workers, and whose standard error goes there."""
     seed, until = OPTIONS.seed, time.monotonic() + OPTIONS.seconds
     count = OPTIONS.clients or workers + random.Random(seed + is_refused).randint(1, 3)
     env, seen = settings | {"BLOBD_WORKERS": workers}, collections.Counter()
     what = f"{workers} workers{' that are refused memory' if is_refused else ''}"
-    with running.Server(1_000_000, stderr=subprocess.STDOUT, env=env) as server, running.processes(count) as pool:
+    with running.Server(1_000_000, stderr=log, env=env) as server, running.processes(count) as pool:
         clients = [1_000 * seed + which for which in range(count)]
         ends = pool.map(functools.partial(soaked, server.place(), is_refused, until), clients)
         for which, (wrong, counts) in zip(clients, ends):
@@ -79,13 +85,25 @@ def soak(workers, is_refused, **settings):
         equal(f"the server goes on, and says nothing else: {what}", (goes_on, said), (True, set()))
     counts = ", ".join(f"{name} {number}" for name, number in sorted(seen.items()))
     print(f"workers {workers}, clients {count}: {counts}", flush=True)
-    check(f"what the clients met of {what}", MET <= set(seen) and (not is_refused or REFUSED & set(seen)), seen)
+    # in a directory much has room that has none in memory
+    wants_refused = is_refused and "BLOBD_DATA" not in settings
+    check(f"what the clients met of {what}", MET <= set(seen) and (not wants_refused or REFUSED & set(seen)), seen)
 
 
 @case()
 def test_clients():
     for workers in WORKERS:
         soak(workers, False)
+
+
+@case()
+def test_clients_with_a_directory(folder):
+    for workers in WORKERS:
+        path = os.path.join(folder, str(workers))
+        with tempfile.TemporaryFile() as log:
+            soak(workers, True, log, **data.variables(path, BLOBD_MEMORY=ROOM))
+        with data.serving(path) as server:
+            equal(f"a start after {workers} workers", (data.named_losses(server), server.first_line[:10]), ([], "listening "))
 
 
 @case("cc")

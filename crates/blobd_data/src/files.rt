@@ -5,12 +5,10 @@ use journal_file::OpenFault;
 use sqlite_disk::Disk;
 use std::fs;
 use std::io::{self, ErrorKind};
+use upload_bytes::FOLDERS;
 use upload_compact::Amount;
 use upload_records::Named;
 use upload_store::StoreFault;
-
-/// How many folders they are in: one for each value of a number's low byte.
-const FOLDERS: u64 = 256;
 
 /// A file of a body.
 #[derive(Clone, Copy)]

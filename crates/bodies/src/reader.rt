@@ -92,7 +92,7 @@ impl BodyReader {
     }
 
     /// Notes that what came last of a body is all of this file, so that a blob of it may be kept in the file.
-    pub(crate) fn note_in(&self, body: &mut BodyBuilder)
+    pub(crate) fn note_end(&self, body: &mut BodyBuilder)
         ensures { body.new ≡ body.old }
     {
         if let Some(spool) = &self.spool {

@@ -50,7 +50,7 @@ fn read_rest(reader: &mut BodyReader, body: &mut BodyBuilder) -> Option<()>
     for _ in 0..u64::MAX {
         let n = reader.read(&mut piece).ok()?;
         if n == 0 {
-            reader.note_in(body);
+            reader.note_end(body);
             return Some(());
         }
         body.extend(&InPlace, &piece[..n]).ok()?;

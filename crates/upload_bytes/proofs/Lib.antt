@@ -1,3 +1,4 @@
 pub mod Parts
 pub mod SegmentFacts
 pub mod Prefixes
+pub mod Sent

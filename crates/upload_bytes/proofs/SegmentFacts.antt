@@ -17,6 +17,12 @@ pub front_of : (xs : List (List ℕ)) (x : List ℕ) → take (length xs) (with_
 front_of xs [] = take-length xs
 front_of xs (b ∷ x) = take-append_seam xs ((b ∷ x) ∷ [])
 
+-- nor do more parts
+pub with_more : (xs ys : List (List ℕ)) (x : List ℕ) → take (length xs) (with_part (xs ++ ys) x) ≡ xs
+with_more xs ys [] = take-append_seam xs ys
+with_more xs ys (b ∷ x) =
+    ap (take (length xs)) (append_assoc xs ys ((b ∷ x) ∷ [])) ∙ take-append_seam xs (ys ++ (b ∷ x) ∷ [])
+
 -- what came before, a body's parts and its last one, joined
 pub concat-behind : (xs : List (List ℕ)) (ys : List (List ℕ)) (l : List ℕ)
     → concat ((xs ++ ys) ++ l ∷ []) ≡ concat xs ++ (concat ys ++ l)

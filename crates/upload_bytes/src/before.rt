@@ -104,9 +104,25 @@ impl Before {
 pub(crate) fn share_segments(alloc: Global, segments: &Segments) -> Result<Vec<Stretch>, AllocError>
     ensures { IfOk result (λ stretches. concat stretches.items ≡ whole segments.now) }
 {
+    if segments.has_gone() {
+        return share_gone(alloc, segments);
+    }
     let settled = segments.settled();
     let mut shares = Vec::with_capacity(alloc, settled.len().saturating_add(1))?;
     share_parts_into(&mut shares, settled)?;
+    shares.push(copied(alloc, segments.tail())?)?;
+    Ok(shares)
+}
+
+/// The same of segments of which some left memory.
+fn share_gone(alloc: Global, segments: &Segments) -> Result<Vec<Stretch>, AllocError>
+    ensures { IfOk result (λ stretches. concat stretches.items ≡ whole segments.now) }
+{
+    let Some(stretches) = segments.stretches() else {
+        return Err(AllocError);
+    };
+    let mut shares = Vec::with_capacity(alloc, stretches.len().saturating_add(1))?;
+    share_all_into(&mut shares, stretches)?;
     shares.push(copied(alloc, segments.tail())?)?;
     Ok(shares)
 }

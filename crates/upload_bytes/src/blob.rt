@@ -65,13 +65,25 @@ fn stretches_of(
     ensures { IfOk result (λ all. concat all.0.items ++ all.1 ≡ bytes_in pieces) }
 {
     if let Some(files) = files {
-        return Ok(files.into_stretches());
+        return Ok(apart(files.into_stretches()));
     }
     let Pieces { parts, last } = pieces;
     let stretches = all_here(alloc, parts)?;
     match Part::of(alloc, last) {
         Ok(last) => Ok((stretches, Stretch::here(last))),
         Err(_) => Err(AllocError),
+    }
+}
+
+/// Stretches, the last of them apart.
+fn apart(stretches: Vec<Stretch>) -> (Vec<Stretch>, Stretch)
+    requires { 0 < length stretches.items }
+    ensures { concat result.0.items ++ result.1 ≡ concat stretches.items }
+{
+    let mut before = stretches;
+    match before.pop() {
+        Some(last) => (before, last),
+        None => unreachable!(),
     }
 }
 

@@ -339,7 +339,7 @@ fn in_one(
     }
     let alloc = *pieces.parts.allocator();
     let part = FilePart::of(alloc, file, len).ok()?;
-    Some(InFiles::of(alloc, part))
+    InFiles::of(alloc, part).ok()
 }
 
 /// A hash in a place of its own. Without memory for that it is dropped: who needs it hashes again.
@@ -534,9 +534,8 @@ impl BodyBuilder {
     fn catch_up<P: HashPlace>(&mut self, place: &P)
         ensures { self.new ≡ self.old }
     {
-        if let Some(hash) = &mut self.hash {
-            let _ = hash.catch_up(place, self.alloc, self.parts.as_slice());
-        }
+        let hash = self.hash.take();
+        self.hash = caught_up(place, self.alloc, hash, self.parts.as_slice());
         let file = self.file.take();
         self.file = place.write(self.alloc, file, self.parts.as_slice());
     }
@@ -603,6 +602,23 @@ fn part_of(alloc: Global, room: &Option<Room>, bytes: Granted) -> Result<Part, G
         Some(grant) => Part::of(alloc, bytes.under(grant)),
         None => Err(bytes),
     }
+}
+
+/// The hash of the first parts of a body, with those taken in that it lacks.
+fn caught_up<P: HashPlace>(
+    place: &P,
+    alloc: Global,
+    hash: Option<PrefixHash>,
+    parts: &[Part],
+) -> Option<PrefixHash>
+    requires { HoldsIfAny hash parts.now }
+    ensures { HoldsIfAny result parts.now }
+{
+    let Some(mut hash) = hash else {
+        return None;
+    };
+    let _ = hash.catch_up(place, alloc, parts);
+    Some(hash)
 }
 
 /// The hash of a body, from that of its first parts, all parts, and what came behind them.

@@ -73,7 +73,8 @@ impl Front {
     pub(crate) fn is_of(&self, segments: &Segments) -> bool
         ensures { IsTrue result → self.now ≡ whole segments.now }
     {
-        is_same(self.tail.as_slice(), segments.tail())
+        !segments.has_gone()
+            && is_same(self.tail.as_slice(), segments.tail())
             && are_same(self.settled.as_slice(), segments.settled())
     }
 }

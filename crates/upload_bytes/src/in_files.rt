@@ -9,51 +9,54 @@ use http_wire::Given;
 use std::alloc::{AllocError, Global};
 use std::marker::Model;
 
-/// Bytes in files, one after another. They are seen as the bytes.
+/// Bytes in files, one after another: one file at least. They are seen as the bytes.
 #[derive(Drop)]
 pub struct InFiles {
-    before: Vec<Stretch>,
-    last: Stretch,
+    stretches: Vec<Stretch>,
 }
 
 impl Model for InFiles {
-    ghost use Rattle.std.specs.Prelude.{List, ℕ, ◌++◌};
+    ghost use Rattle.std.specs.Prelude.{List, ℕ, ◌<◌, length};
     ghost use Rattle.std.specs.List.{concat};
 
     ghost Value = { List ℕ };
 
-    ghost view = { λ a. concat a.before.items ++ a.last };
+    ghost view = { λ a. concat a.stretches.items };
+
+    ghost invariant = { λ a. 0 < length a.stretches.items };
 }
 
 impl InFiles {
-    /// Those of one file. It takes no memory.
-    pub(crate) fn of(alloc: Global, file: FilePart) -> InFiles
-        ensures { result ≡ file }
+    /// Those of one file.
+    pub(crate) fn of(alloc: Global, file: FilePart) -> Result<InFiles, AllocError>
+        ensures { IfOk result (λ files. files ≡ file) }
     {
-        InFiles {
-            before: Vec::new(alloc),
-            last: Stretch::filed(file),
-        }
+        let mut stretches = Vec::with_capacity(alloc, 1)?;
+        stretches.push(Stretch::filed(file))?;
+        Ok(InFiles { stretches })
     }
 
     /// With those of one more file behind them.
     fn and(self, file: FilePart) -> Result<InFiles, AllocError>
         ensures { IfOk result (λ files. files ≡ self ++ file) }
     {
-        let InFiles { mut before, last } = self;
-        before.push(last)?;
-        Ok(InFiles {
-            before,
-            last: Stretch::filed(file),
-        })
+        let InFiles { mut stretches } = self;
+        stretches.push(Stretch::filed(file))?;
+        Ok(InFiles { stretches })
     }
 
-    /// The stretches, the last of them apart.
-    pub(crate) fn into_stretches(self) -> (Vec<Stretch>, Stretch)
-        ensures { concat result.0.items ++ result.1 ≡ self }
+    /// How many files there are.
+    pub(crate) fn count(&self) -> usize {
+        self.stretches.len()
+    }
+
+    /// The stretches, in their order.
+    pub(crate) fn into_stretches(self) -> Vec<Stretch>
+        ensures bytes { concat result.items ≡ self }
+        ensures some { 0 < length result.items }
     {
-        let InFiles { before, last } = self;
-        (before, last)
+        let InFiles { stretches } = self;
+        stretches
     }
 }
 
@@ -111,7 +114,7 @@ impl Reading {
         let Reading { files, came, len } = self;
         let file = FilePart::numbered(alloc, spool, number, came, len)?;
         let files = match files {
-            None => InFiles::of(alloc, file),
+            None => InFiles::of(alloc, file).ok()?,
             Some(files) => files.and(file).ok()?,
         };
         Some(Reading {

@@ -1,5 +1,5 @@
 //! A running hash that holds a prefix of a session's segments, and catches up with them.
-ghost use Rattle.std.specs.Prelude.{◌≤◌, ℕ, List, length, IfSome};
+ghost use Rattle.std.specs.Prelude.{◌≤◌, ◌++◌, ℕ, List, [], length, IfSome};
 ghost use Rattle.upload_names.specs.declared.digest.Algorithm.{Algorithm as By};
 ghost use Rattle.upload_bytes.specs.Running.{HoldsBy};
 ghost use Rattle.std.specs.List.{concat};
@@ -23,18 +23,26 @@ pub struct PrefixHash {
 impl PrefixHash {
     /// A hash of no segments by this algorithm.
     pub fn new(algorithm: Algorithm) -> PrefixHash
-        ensures { (settled : List (List ℕ)) → HoldsPrefix algorithm settled result }
+        ensures { (settled : List (List ℕ)) → HoldsPrefix algorithm [] settled result }
+    {
+        PrefixHash::behind(Running::new(algorithm))
+    }
+
+    /// A hash of no segments behind what it holds.
+    pub fn behind(hash: Running) -> PrefixHash
+        ensures { (by : By) (base : List ℕ) (settled : List (List ℕ)) → HoldsBy by hash base
+            → HoldsPrefix by base settled result }
     {
         PrefixHash {
-            running: Hashing::Here(Running::new(algorithm)),
+            running: Hashing::Here(hash),
             held: 0,
         }
     }
 
-    /// A hash that holds all these segments.
+    /// A hash that holds all these segments behind others.
     pub fn of_all(hash: Running, settled: &[Part]) -> PrefixHash
-        ensures { (by : By) → HoldsBy by hash (concat settled.now)
-            → HoldsPrefix by settled.now result }
+        ensures { (by : By) (base : List ℕ) → HoldsBy by hash (base ++ concat settled.now)
+            → HoldsPrefix by base settled.now result }
     {
         PrefixHash {
             running: Hashing::Here(hash),
@@ -51,8 +59,8 @@ impl PrefixHash {
         settled: &[Part],
     ) -> Option<ThreadEnd>
         requires { self.old.held ≤ length settled.now }
-        ensures { (by : By) → HoldsPrefix by settled.now self.old
-            → HoldsPrefix by settled.now self.new }
+        ensures { (by : By) (base : List ℕ) → HoldsPrefix by base settled.now self.old
+            → HoldsPrefix by base settled.now self.new }
     {
         if !self.running.is_at_work() {
             let before = mem::replace(self, PrefixHash::new(Algorithm::Sha256));
@@ -64,8 +72,8 @@ impl PrefixHash {
     /// Has the hash back from a thread that has ended, if it can be joined at this place. Nobody waits. Gives the end
     /// of the thread that is at work, if one is.
     pub fn take_back<P: HashPlace>(&mut self, place: &P) -> Option<ThreadEnd>
-        ensures { (by : By) (settled : List (List ℕ)) → HoldsPrefix by settled self.old
-            → HoldsPrefix by settled self.new }
+        ensures { (by : By) (base : List ℕ) (settled : List (List ℕ)) → HoldsPrefix by base settled self.old
+            → HoldsPrefix by base settled self.new }
     {
         if !self.running.is_at_work() {
             let before = mem::replace(self, PrefixHash::new(Algorithm::Sha256));
@@ -76,8 +84,8 @@ impl PrefixHash {
 
     /// The same hash, without its thread if that can be joined at this place. It is waited for.
     fn at_home<P: HashPlace>(self, place: &P) -> PrefixHash
-        ensures { (by : By) (settled : List (List ℕ)) → HoldsPrefix by settled self
-            → HoldsPrefix by settled result }
+        ensures { (by : By) (base : List ℕ) (settled : List (List ℕ)) → HoldsPrefix by base settled self
+            → HoldsPrefix by base settled result }
     {
         let PrefixHash { running, held } = self;
         let running = match place.join(running) {
@@ -90,7 +98,8 @@ impl PrefixHash {
     /// The hash with all segments taken in, if its thread can be joined at this place. It is waited for.
     fn with_all<P: HashPlace>(self, place: &P, alloc: Global, settled: &[Part]) -> PrefixHash
         requires { self.held ≤ length settled.now }
-        ensures { (by : By) → HoldsPrefix by settled.now self → HoldsPrefix by settled.now result }
+        ensures { (by : By) (base : List ℕ) → HoldsPrefix by base settled.now self
+            → HoldsPrefix by base settled.now result }
     {
         let PrefixHash { running, held } = self;
         match place.join(running) {
@@ -105,8 +114,8 @@ impl PrefixHash {
     /// A hash of all segments, if its thread can be joined at this place. It is waited for.
     pub fn into_hash<P: HashPlace>(self, place: &P, settled: &[Part]) -> Option<Running>
         requires { self.held ≤ length settled.now }
-        ensures { IfSome result (λ hash. (by : By) → HoldsPrefix by settled.now self
-            → HoldsBy by hash (concat settled.now)) }
+        ensures { IfSome result (λ hash. (by : By) (base : List ℕ) → HoldsPrefix by base settled.now self
+            → HoldsBy by hash (base ++ concat settled.now)) }
     {
         let PrefixHash { running, held } = self;
         let Ok(hash) = place.join(running) else {
@@ -115,22 +124,25 @@ impl PrefixHash {
         Some(hash.with_parts(&settled[held..]))
     }
 
-    /// A hash by this algorithm of all segments: a copy of the running one, which catches up before. If that is away in
-    /// a thread which can't be joined at this place, all is hashed anew.
+    /// A hash of all segments: a copy of the running one, which catches up before. If that is away in a thread which
+    /// can't be joined at this place, all is hashed anew behind what another hash holds.
     pub fn of_settled<P: HashPlace>(
         &mut self,
         place: &P,
-        algorithm: Algorithm,
+        gone: &Running,
         settled: &[Part],
     ) -> Running
-        requires { HoldsPrefix algorithm settled.now self.old }
-        ensures hash { HoldsBy algorithm result (concat settled.now) }
-        ensures prefix { HoldsPrefix algorithm settled.now self.new }
+        requires { self.old.held ≤ length settled.now }
+        ensures hash { (by : By) (base : List ℕ) → HoldsBy by gone.now base
+            → HoldsPrefix by base settled.now self.old
+            → HoldsBy by result (base ++ concat settled.now) }
+        ensures prefix { (by : By) (base : List ℕ) → HoldsBy by gone.now base
+            → HoldsPrefix by base settled.now self.old → HoldsPrefix by base settled.now self.new }
     {
-        let before = mem::replace(self, PrefixHash::new(algorithm));
+        let before = mem::replace(self, PrefixHash::behind(gone.copy()));
         let hash = match before.into_hash(place, settled) {
             Some(hash) => hash,
-            None => Running::new(algorithm).with_parts(settled),
+            None => gone.copy().with_parts(settled),
         };
         *self = PrefixHash::of_all(hash.copy(), settled);
         hash

@@ -31,6 +31,9 @@ pub struct Received {
     segments: Segments,
     sha256: PrefixHash,
     sha512: PrefixHash,
+    /// Hashes of just what left memory.
+    gone_256: Running,
+    gone_512: Running,
 }
 
 impl Model for Received {
@@ -46,7 +49,7 @@ impl Model for Received {
 
     ghost view = { λ a. whole a.segments };
 
-    ghost invariant = { λ a. AreRunning a.segments a.sha256 a.sha512 };
+    ghost invariant = { λ a. AreRunning a.segments a.sha256 a.sha512 a.gone_256 a.gone_512 };
 }
 
 impl Received {
@@ -58,6 +61,8 @@ impl Received {
             segments: Segments::new(alloc),
             sha256: PrefixHash::new(Algorithm::Sha256),
             sha512: PrefixHash::new(Algorithm::Sha512),
+            gone_256: Running::new(Algorithm::Sha256),
+            gone_512: Running::new(Algorithm::Sha512),
         }
     }
 
@@ -118,8 +123,8 @@ impl Received {
     }
 
     /// What was received, with its hash by an algorithm, for who hashes a last body behind it (`Body::hashed_behind`).
-    /// None if there is no memory for it. A thread that hashes for that is waited for, if the place has threads.
-    /// Nothing that is seen changes.
+    /// None if there is no memory for it, or if some of it left memory. A thread that hashes for that is waited for, if
+    /// the place has threads. Nothing that is seen changes.
     pub fn front<P: HashPlace>(
         &mut self,
         place: &P,
@@ -129,14 +134,56 @@ impl Received {
         ensures front { IfSome result (λ front. front ≡ self.old) }
         ensures same { self.new ≡ self.old }
     {
+        if self.segments.has_gone() {
+            return None;
+        }
         let settled = self.segments.settled();
         let hash = match algorithm {
-            Algorithm::Sha256 => self.sha256.of_settled(place, Algorithm::Sha256, settled),
-            Algorithm::Sha512 => self.sha512.of_settled(place, Algorithm::Sha512, settled),
+            Algorithm::Sha256 => self.sha256.of_settled(place, &self.gone_256, settled),
+            Algorithm::Sha512 => self.sha512.of_settled(place, &self.gone_512, settled),
         };
         let shares = share_all(alloc, settled).ok()?;
         let tail = Vec::from_slice(alloc, self.segments.tail()).ok()?;
         Some(Front::of(shares, tail, self.segments.total(), hash))
+    }
+
+    /// Whether memory comes back as its segments leave it (`evict`).
+    pub fn may_evict(&self) -> bool {
+        self.segments.may_evict()
+    }
+
+    /// Whether all that stays as it is left memory, so that little would come back if the bytes were let go.
+    pub fn is_evicted(&self) -> bool {
+        self.segments.has_gone() && self.segments.settled().is_empty()
+    }
+
+    /// Has the segments leave memory that stay as they are, if files have some of them: both hashes take in at a place
+    /// what they lack. While a thread is at work for one of these nothing is done. Nothing that is seen changes.
+    pub fn evict<P: HashPlace>(&mut self, place: &P, alloc: Global)
+        ensures { self.new ≡ self.old }
+    {
+        if !self.may_evict() {
+            return;
+        }
+        let first = self.take_back(place, Algorithm::Sha256);
+        let second = self.take_back(place, Algorithm::Sha512);
+        if first.is_some() || second.is_some() {
+            return;
+        }
+        let settled = self.segments.settled();
+        let sha256 = self.sha256.of_settled(place, &self.gone_256, settled);
+        let sha512 = self.sha512.of_settled(place, &self.gone_512, settled);
+        let Some(parts) = self.segments.evict() else {
+            return;
+        };
+        self.sha256 = PrefixHash::behind(sha256.copy());
+        self.sha512 = PrefixHash::behind(sha512.copy());
+        self.gone_256 = sha256;
+        self.gone_512 = sha512;
+        let mut shares = Shares::none(alloc);
+        shares.add(parts.as_slice());
+        drop(parts);
+        place.let_go(shares);
     }
 
     /// Whether what was received and a last body have a digest, by the algorithm of that digest. A thread that hashes
@@ -174,7 +221,7 @@ impl Received {
             return hash.finalize();
         }
         let settled = self.segments.settled();
-        match self.sha256.of_settled(place, Algorithm::Sha256, settled) {
+        match self.sha256.of_settled(place, &self.gone_256, settled) {
             Running::Sha256(hash) => finish(hash, &self.segments, body),
             Running::Sha512(_) => unreachable!(),
         }
@@ -194,7 +241,7 @@ impl Received {
             return hash.finalize();
         }
         let settled = self.segments.settled();
-        match self.sha512.of_settled(place, Algorithm::Sha512, settled) {
+        match self.sha512.of_settled(place, &self.gone_512, settled) {
             Running::Sha512(hash) => finish(hash, &self.segments, body),
             Running::Sha256(_) => unreachable!(),
         }
@@ -241,11 +288,17 @@ impl Received {
         ensures same { self.new ≡ self.old }
     {
         let settled = self.segments.settled();
-        let hash = match algorithm {
-            Algorithm::Sha256 => self.sha256.of_settled(place, Algorithm::Sha256, settled),
-            Algorithm::Sha512 => self.sha512.of_settled(place, Algorithm::Sha512, settled),
-        };
-        hash.with(self.segments.tail())
+        let tail = self.segments.tail();
+        match algorithm {
+            Algorithm::Sha256 => {
+                let hash = self.sha256.of_settled(place, &self.gone_256, settled);
+                hash.with(tail)
+            }
+            Algorithm::Sha512 => {
+                let hash = self.sha512.of_settled(place, &self.gone_512, settled);
+                hash.with(tail)
+            }
+        }
     }
 
     /// The segments alone.
@@ -258,7 +311,7 @@ impl Received {
 
 /// The digest of the segments and a last body, by a hash that holds the segments that stay as they are.
 fn finish<H: Digest>(mut hash: H, segments: &Segments, body: &Body) -> H::Output
-    requires { H.holds hash (concat segments.now.settled) }
+    requires { H.holds hash (segments.now.base ++ concat segments.now.settled) }
     ensures { H.digest_of (whole segments.now ++ body.now) result }
 {
     hash.update(segments.tail());

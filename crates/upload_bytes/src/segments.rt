@@ -1,7 +1,7 @@
 //! Bodies one after another. Each is kept as it came, moved in and not copied, but that small ones are joined
 //! into one segment, so that a session which is fed a byte at a time takes little more than its bytes.
 ghost use Rattle.std.specs.Prelude.{◌≡◌, ◌+◌, ◌-◌, ◌<◌, ◌≤◌, ◌^◌, ◌++◌, ◌∷◌, [], ℕ, List, length, take, min};
-ghost use Rattle.std.specs.Prelude.{vec_len, vec_capacity, IfSome, OnOk, OnErr};
+ghost use Rattle.std.specs.Prelude.{vec_len, vec_capacity, IfSome, IfNone, OnOk, OnErr, IsFalse};
 ghost use Rattle.std.specs.List.{concat};
 ghost use Rattle.upload_bytes.specs.Body.{bytes_in};
 ghost use Rattle.upload_bytes.specs.Before.{bytes_before};
@@ -14,6 +14,7 @@ use crate::in_files::InFiles;
 use crate::part::Part;
 use crate::room::Grant;
 use crate::stretch::{Stretch, share_parts_into};
+use http_wire::Given;
 use std::alloc::{AllocError, Global};
 use std::marker::Model;
 use std::mem;
@@ -25,13 +26,18 @@ const JOINED_SIZE: usize = 65_536;
 #[derive(Drop)]
 pub struct Segments {
     alloc: Global,
+    /// The bytes before the segments, which left memory, for contracts; and how many there are.
+    gone: Given,
+    gone_len: u64,
     /// The segments that stay as they are.
     settled: Vec<Part>,
     /// The last segment, which small bodies are joined to. It is empty if there is none.
     tail: Granted,
     /// The bytes of these once more, for a blob: those of a body that is in files are in these, and others in
-    /// their parts, which are shared. None if there was no memory for that.
+    /// their parts, which are shared; before these what left memory. None if there was no memory for that.
     stretches: Option<Vec<Stretch>>,
+    /// So many of the stretches had been there as bytes left memory last.
+    left: usize,
     /// How many bytes there are in all.
     total: u64,
 }
@@ -42,22 +48,26 @@ impl Model for Segments {
 
     ghost Value = { Parts };
 
-    ghost view = { λ a. record { settled = a.settled.items; tail = a.tail } };
+    ghost view = { λ a. record { base = a.gone; settled = a.settled.items; tail = a.tail } };
 
-    ghost invariant = { λ a. IsCounted a.total (option_map (λ stretches. stretches.items) a.stretches)
-        (record { settled = a.settled.items; tail = a.tail }) };
+    ghost invariant = { λ a. IsCounted a.total a.gone_len
+        (option_map (λ stretches. stretches.items) a.stretches)
+        (record { base = a.gone; settled = a.settled.items; tail = a.tail }) };
 }
 
 impl Segments {
     /// No segments. It takes no memory.
     pub fn new(alloc: Global) -> Segments
-        ensures { result ≡ record { settled = []; tail = [] } }
+        ensures { result ≡ record { base = []; settled = []; tail = [] } }
     {
         Segments {
             alloc,
+            gone: Given::none(),
+            gone_len: 0,
             settled: Vec::new(alloc),
             tail: Granted::none(alloc, Grant::unlimited()),
             stretches: Some(Vec::new(alloc)),
+            left: 0,
             total: 0,
         }
     }
@@ -67,6 +77,24 @@ impl Segments {
         ensures { result ≡ length (whole self.now) }
     {
         self.total
+    }
+
+    /// All but those of the last segment, as stretches, if there was memory for these.
+    pub(crate) fn stretches(&self) -> Option<&[Stretch]>
+        ensures { IfSome result (λ stretches.
+            concat stretches.now ≡ self.now.base ++ concat self.now.settled) }
+    {
+        match &self.stretches {
+            Some(stretches) => Some(stretches.as_slice()),
+            None => None,
+        }
+    }
+
+    /// Whether some of the bytes left memory.
+    pub fn has_gone(&self) -> bool
+        ensures { IsFalse result → self.now.base ≡ [] }
+    {
+        self.gone_len > 0
     }
 
     /// The segments that stay as they are, in their order.
@@ -110,6 +138,7 @@ impl Segments {
     pub fn append(&mut self, body: Body) -> Result<(), AllocError>
         requires { length (whole self.old) + length body < 2 ^ 64 }
         ensures more { OnOk result (whole self.new ≡ whole self.old ++ body) }
+        ensures base { OnOk result (self.new.base ≡ self.old.base) }
         ensures front { OnOk result
             (take (length self.old.settled) self.new.settled ≡ self.old.settled) }
         ensures longer { OnOk result (length self.old.settled ≤ length self.new.settled) }
@@ -132,6 +161,7 @@ impl Segments {
         requires size { size ≡ length (bytes_in body) }
         requires fits { length (whole self.old) + size < 2 ^ 64 }
         ensures more { OnOk result (whole self.new ≡ whole self.old ++ bytes_in body) }
+        ensures base { OnOk result (self.new.base ≡ self.old.base) }
         ensures same { OnOk result (self.new.settled ≡ self.old.settled) }
         ensures err { OnErr result (self.new ≡ self.old) }
     {
@@ -147,12 +177,14 @@ impl Segments {
         requires size { size ≡ length (bytes_in body) }
         requires fits { length (whole self.old) + size < 2 ^ 64 }
         ensures more { OnOk result (whole self.new ≡ whole self.old ++ bytes_in body) }
+        ensures base { OnOk result (self.new.base ≡ self.old.base) }
         ensures front { OnOk result
             (take (length self.old.settled) self.new.settled ≡ self.old.settled) }
         ensures longer { OnOk result (length self.old.settled ≤ length self.new.settled) }
         ensures err { OnErr result (self.new ≡ self.old) }
     {
         let Pieces { last, .. } = body;
+        self.make_room(1)?;
         self.settled.reserve(1)?;
         let had = self.settled.len();
         settle_tail(self.alloc, &mut self.settled, &mut self.tail)?;
@@ -174,12 +206,14 @@ impl Segments {
         requires filed { IfSome files (λ files. files ≡ bytes_in body) }
         requires fits { length (whole self.old) + size < 2 ^ 64 }
         ensures more { OnOk result (whole self.new ≡ whole self.old ++ bytes_in body) }
+        ensures base { OnOk result (self.new.base ≡ self.old.base) }
         ensures front { OnOk result
             (take (length self.old.settled) self.new.settled ≡ self.old.settled) }
         ensures longer { OnOk result (length self.old.settled ≤ length self.new.settled) }
         ensures err { OnErr result (self.new ≡ self.old) }
     {
         let Pieces { parts, last } = body;
+        self.make_room(stretches_in(&parts, &files))?;
         self.settled.reserve(parts.len().saturating_add(2))?;
         let Ok(last) = Part::of(self.alloc, last) else {
             return Err(AllocError);
@@ -193,35 +227,113 @@ impl Segments {
         Ok(())
     }
 
+    /// Whether memory comes back as the segments leave it that stay as they are: files have some of them.
+    pub fn may_evict(&self) -> bool {
+        match &self.stretches {
+            Some(stretches) => stretches
+                .iter()
+                .skip(self.left)
+                .any(|stretch| stretch.is_filed()),
+            None => false,
+        }
+    }
+
+    /// Has the segments leave memory that stay as they are, and gives them: the stretches have their bytes. None says
+    /// that there are no stretches, and nothing changes then.
+    pub fn evict(&mut self) -> Option<Vec<Part>>
+        ensures gone { IfSome result (λ parts. (parts.items ≡ self.old.settled) × (self.new ≡ record {
+          base = self.old.base ++ concat self.old.settled;
+          settled = [];
+          tail = self.old.tail;
+        })) }
+        ensures none { IfNone result (self.new ≡ self.old) }
+    {
+        let Some(stretches) = &self.stretches else {
+            return None;
+        };
+        self.left = stretches.len();
+        let settled = mem::replace(&mut self.settled, Vec::new(self.alloc));
+        let gone = mem::replace(&mut self.gone, Given::none());
+        self.gone = given_with(gone, settled.as_slice());
+        self.gone_len = self.total - self.tail.len() as u64;
+        Some(settled)
+    }
+
+    /// Has room for so many stretches more. Without memory for them there are no stretches from then on; if bytes left
+    /// memory, that is an `Err`. Nothing that is seen changes.
+    fn make_room(&mut self, more: usize) -> Result<(), AllocError>
+        ensures { self.new ≡ self.old }
+    {
+        let Some(stretches) = &mut self.stretches else {
+            return Ok(());
+        };
+        if stretches.reserve(more).is_ok() {
+            return Ok(());
+        }
+        if self.gone_len > 0 {
+            return Err(AllocError);
+        }
+        self.stretches = None;
+        Ok(())
+    }
+
     /// What a blob keeps of these. It takes no memory.
     pub fn into_before(self) -> Before
         ensures { bytes_before result ≡ whole self }
     {
         let Segments {
             alloc,
+            gone,
+            gone_len,
             settled,
             tail,
             stretches,
+            left,
             total,
         } = self;
         match stretches {
             Some(stretches) => Before::Kept(KeptSegments::of(stretches, tail, total)),
             None => Before::Here(Segments {
                 alloc,
+                gone,
+                gone_len,
                 settled,
                 tail,
                 stretches: None,
+                left,
                 total,
             }),
         }
     }
 }
 
-/// Stretches of the first so many parts, and of those behind them, which are shared. None if there is no memory.
+/// How many stretches a body has at most that comes behind a last segment.
+fn stretches_in(parts: &Vec<Part>, files: &Option<InFiles>) -> usize {
+    let count = match files {
+        Some(files) => files.count(),
+        None => parts.len().saturating_add(1),
+    };
+    count.saturating_add(1)
+}
+
+/// What was given, and parts behind it.
+fn given_with(gone: Given, parts: &[Part]) -> Given
+    ensures { result ≡ gone ++ concat parts.now }
+{
+    let mut given = gone;
+    for part in parts {
+        given = given.and(part.as_slice());
+    }
+    given
+}
+
+/// Stretches of bytes and of the first so many parts behind them, and of the other parts, which are shared. None if there
+/// is no memory.
 fn with_parts(stretches: Option<Vec<Stretch>>, had: usize, parts: &[Part]) -> Option<Vec<Stretch>>
     requires { had ≤ length parts.now }
-    ensures { IfSome stretches (λ before. concat before.items ≡ concat (take had parts.now))
-        → IfSome result (λ all. concat all.items ≡ concat parts.now) }
+    ensures { (base : List ℕ)
+        → IfSome stretches (λ before. concat before.items ≡ base ++ concat (take had parts.now))
+        → IfSome result (λ all. concat all.items ≡ base ++ concat parts.now) }
 {
     let mut stretches = stretches?;
     match share_parts_into(&mut stretches, &parts[had..]) {
@@ -236,9 +348,8 @@ fn with_files(stretches: Option<Vec<Stretch>>, files: InFiles) -> Option<Vec<Str
         → IfSome result (λ all. concat all.items ≡ before ++ files) }
 {
     let mut stretches = stretches?;
-    let (mut behind, last) = files.into_stretches();
+    let mut behind = files.into_stretches();
     stretches.append(&mut behind).ok()?;
-    stretches.push(last).ok()?;
     Some(stretches)
 }
 
@@ -253,9 +364,10 @@ fn settle_body(
 ) -> Option<Vec<Stretch>>
     requires { vec_len settled.old + vec_len parts + 1 ≤ vec_capacity settled.old }
     ensures items { settled.new.items ≡ with_part (settled.old.items ++ parts.items) last }
-    ensures same { IfSome stretches (λ before. concat before.items ≡ concat settled.old.items)
+    ensures same { (base : List ℕ)
+        → IfSome stretches (λ before. concat before.items ≡ base ++ concat settled.old.items)
         → IfSome files (λ files. files ≡ concat parts.items ++ last)
-        → IfSome result (λ all. concat all.items ≡ concat settled.new.items) }
+        → IfSome result (λ all. concat all.items ≡ base ++ concat settled.new.items) }
 {
     let had = settled.len();
     settle_all(settled, parts);

@@ -312,7 +312,7 @@ impl SyncedFile {
             rt: *rt,
             spool: spool.share().ok()?,
             made: 0,
-            named: AtomicU64::new(number.saturating_add(1)),
+            named: AtomicU64::new(number.checked_add(1)?),
         };
         Some(SyncedFile { kept, given })
     }
@@ -346,8 +346,11 @@ impl SyncedFile {
 
     /// Notes that the shelf of its spool gave it this number: from then on it is there, and stays as this goes.
     pub fn note_number(&self, number: u64) {
+        let Some(next) = number.checked_add(1) else {
+            return;
+        };
         if let Kept::Disk { named, .. } = &self.kept {
-            named.store(number.saturating_add(1), Ordering::SeqCst);
+            named.store(next, Ordering::SeqCst);
         }
     }
 

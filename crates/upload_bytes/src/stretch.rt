@@ -11,7 +11,7 @@ use std::marker::Model;
 
 /// Where the bytes of a stretch are.
 #[derive(Drop)]
-pub enum Lies {
+pub enum Location {
     Here(Part),
     Filed(FilePart),
 }
@@ -19,7 +19,7 @@ pub enum Lies {
 /// Bytes of a blob that are in memory, or in a file. It is seen as the bytes.
 #[derive(Drop)]
 pub struct Stretch {
-    lies: Lies,
+    location: Location,
 }
 
 impl Model for Stretch {
@@ -28,7 +28,7 @@ impl Model for Stretch {
 
     ghost Value = { List ℕ };
 
-    ghost view = { λ a. bytes_at a.lies };
+    ghost view = { λ a. bytes_at a.location };
 }
 
 impl Stretch {
@@ -37,7 +37,7 @@ impl Stretch {
         ensures { result ≡ part }
     {
         Stretch {
-            lies: Lies::Here(part),
+            location: Location::Here(part),
         }
     }
 
@@ -46,7 +46,7 @@ impl Stretch {
         ensures { result ≡ part }
     {
         Stretch {
-            lies: Lies::Filed(part),
+            location: Location::Filed(part),
         }
     }
 
@@ -54,10 +54,15 @@ impl Stretch {
     pub fn len(&self) -> u64
         ensures { result ≡ length self.now }
     {
-        match &self.lies {
-            Lies::Here(part) => part.as_slice().len() as u64,
-            Lies::Filed(part) => part.len(),
+        match &self.location {
+            Location::Here(part) => part.as_slice().len() as u64,
+            Location::Filed(part) => part.len(),
         }
+    }
+
+    /// Whether they are in a file.
+    pub fn is_filed(&self) -> bool {
+        matches!(self.location, Location::Filed(_))
     }
 
     /// The bytes, in place, or an `Err` with the file that has them.
@@ -65,9 +70,9 @@ impl Stretch {
         ensures here { IfOk result (λ bytes. bytes.now ≡ self.now) }
         ensures filed { IfErr result (λ part. part.now ≡ self.now) }
     {
-        match &self.lies {
-            Lies::Here(part) => Ok(part.as_slice()),
-            Lies::Filed(part) => Err(part),
+        match &self.location {
+            Location::Here(part) => Ok(part.as_slice()),
+            Location::Filed(part) => Err(part),
         }
     }
 
@@ -77,17 +82,17 @@ impl Stretch {
         ensures traded { IsTrue result → (self.new ≡ bytes.old) × (bytes.new ≡ self.old) }
         ensures kept { IsFalse result → (self.new ≡ self.old) × (bytes.new ≡ bytes.old) }
     {
-        match &mut self.lies {
-            Lies::Here(part) => part.trade(bytes),
-            Lies::Filed(_) => false,
+        match &mut self.location {
+            Location::Here(part) => part.trade(bytes),
+            Location::Filed(_) => false,
         }
     }
 
     /// Has a share of its part kept, if it is in memory.
     pub(crate) fn keep_in(&self, shares: &mut Shares) {
-        match &self.lies {
-            Lies::Here(part) => shares.add_one(part),
-            Lies::Filed(_) => {}
+        match &self.location {
+            Location::Here(part) => shares.add_one(part),
+            Location::Filed(_) => {}
         }
     }
 
@@ -96,9 +101,9 @@ impl Stretch {
     pub fn share(&self) -> Result<Stretch, AllocError>
         ensures { IfOk result (λ stretch. stretch ≡ self.now) }
     {
-        match &self.lies {
-            Lies::Here(part) => Ok(Stretch::here(part.share()?)),
-            Lies::Filed(part) => Ok(Stretch::filed(part.share()?)),
+        match &self.location {
+            Location::Here(part) => Ok(Stretch::here(part.share()?)),
+            Location::Filed(part) => Ok(Stretch::filed(part.share()?)),
         }
     }
 }

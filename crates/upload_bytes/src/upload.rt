@@ -30,6 +30,8 @@ pub struct Upload {
     content: Content,
     /// Its bytes are to be let go once its hashes hold them.
     leaves: bool,
+    /// Those that files have are to leave memory once its hashes hold them.
+    evicts: bool,
 }
 
 impl Model for Upload {
@@ -60,6 +62,7 @@ impl Upload {
         Upload {
             content: Content::Held(received),
             leaves: false,
+            evicts: false,
         }
     }
 
@@ -103,8 +106,8 @@ impl Upload {
         }
     }
 
-    /// Has the hash by an algorithm back from a thread that has ended (`Received::take_back`), and lets the bytes go if
-    /// they are to go and no thread is at work for them. Nothing that is seen changes.
+    /// Has the hash by an algorithm back from a thread that has ended (`Received::take_back`), and has the bytes go, or
+    /// leave memory, if they are to and no thread is at work for them. Nothing that is seen changes.
     pub fn take_back<P: HashPlace>(
         &mut self,
         place: &P,
@@ -119,6 +122,8 @@ impl Upload {
         };
         if self.leaves {
             self.let_go(place, alloc);
+        } else if self.evicts {
+            self.evict(place, alloc);
         }
         end
     }
@@ -126,14 +131,36 @@ impl Upload {
     /// Whether it has bytes that aren't to be let go.
     pub fn stays(&self) -> bool {
         match &self.content {
-            Content::Held(received) => !self.leaves && received.len() > 0,
+            Content::Held(received) => {
+                !self.leaves && !received.is_evicted() && received.len() > 0
+            }
             Content::Gone(_) => false,
         }
     }
 
+    /// Whether it has bytes in memory that files have too.
+    pub fn may_evict(&self) -> bool {
+        match &self.content {
+            Content::Held(received) => received.may_evict(),
+            Content::Gone(_) => false,
+        }
+    }
+
+    /// Has the bytes leave memory that files have (`Received::evict`): at once, or else once no thread is at work for
+    /// them (`take_back`). Nothing that is seen changes, and all goes on as before.
+    pub fn evict<P: HashPlace>(&mut self, place: &P, alloc: Global)
+        ensures { self.new ≡ self.old }
+    {
+        if let Content::Held(received) = &mut self.content {
+            received.evict(place, alloc);
+            self.evicts = received.may_evict();
+        }
+    }
+
     /// Has the bytes go, so that there is room for others: at once if its hashes hold them, or else once they do
-    /// (`take_back`). Both catch up at a place. Nothing that is seen changes; from then on nothing can be appended, and
-    /// the bytes can't be had, which is told as want of memory.
+    /// (`take_back`). Both catch up at a place. Bytes that files have are evicted (`evict`), and all goes on as before.
+    /// Of others nothing that is seen changes; from then on nothing can be appended, and the bytes can't be had, which
+    /// is told as want of memory.
     pub fn give_way<P: HashPlace>(&mut self, place: &P, alloc: Global)
         ensures { self.new ≡ self.old }
     {
@@ -158,6 +185,11 @@ impl Upload {
         let Content::Held(received) = &mut self.content else {
             return;
         };
+        received.evict(place, alloc);
+        if received.is_evicted() {
+            self.leaves = false;
+            return;
+        }
         let received = mem::replace(received, Received::new(alloc));
         self.content = match received.let_go(place, alloc) {
             Ok(digested) => Content::Gone(digested),

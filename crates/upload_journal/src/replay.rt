@@ -296,7 +296,20 @@ fn serve(service: &mut Service, ask: Ask, secret: [u8; 12], now: u64) -> Answer
     if is_short(service, &ask) {
         service.give_way(&InPlace, now);
     }
-    service.step(ask, secret, now)
+    let upload = upload_of(&ask);
+    let answer = service.step(ask, secret, now);
+    if let Some(at) = upload {
+        service.evict(&InPlace, &at);
+    }
+    answer
+}
+
+/// The upload that a chunk is for.
+fn upload_of(ask: &Ask) -> Option<UploadRef> {
+    match ask {
+        Ask::Chunk { at, .. } => Some(*at),
+        _ => None,
+    }
 }
 
 /// A service that entries are run through again, one after another. It is seen as how far it has come.

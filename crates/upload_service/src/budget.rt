@@ -49,6 +49,14 @@ impl Budget {
         }
     }
 
+    /// Whether less than half of the room is left.
+    pub fn is_half_used(&self) -> bool {
+        match &self.room {
+            Some(room) => room.left() < room.limit() / 2,
+            None => false,
+        }
+    }
+
     /// A grant of no bytes, which others may join.
     pub fn none(&self) -> Grant {
         match &self.room {

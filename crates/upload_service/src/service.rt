@@ -219,9 +219,21 @@ impl Service {
         ensures { self.new ≡ self.old }
     {
         self.take_back(place);
+        self.evict(place, at);
         self.tables
             .sessions
             .catch_up(place, self.tables.alloc, at, algorithm)
+    }
+
+    /// If less than half of the room is left, has the bytes of a session leave memory that files have: both hashes take
+    /// in at a place what they lack. If threads do that, the bytes leave with the first `catch_up` of this session behind
+    /// their end. Nothing that is seen changes, and the session goes on as before.
+    pub fn evict<P: HashPlace>(&mut self, place: &P, at: &UploadRef)
+        ensures { self.new ≡ self.old }
+    {
+        if self.tables.budget.is_half_used() {
+            self.tables.sessions.evict(place, self.tables.alloc, at);
+        }
     }
 
     /// What an open session received, with its hash by an algorithm, for who hashes the body of a close behind it

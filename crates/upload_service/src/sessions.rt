@@ -272,6 +272,36 @@ impl Sessions {
         session.received.take_back(place, alloc, algorithm)
     }
 
+    /// Has the bytes of a session leave memory that files have (`Upload::evict`): both hashes take in at a place what
+    /// they lack. If threads do that, the bytes leave with the next call behind their end. Nothing that is seen changes.
+    pub fn evict<P: HashPlace>(&mut self, place: &P, alloc: Global, at: &UploadRef)
+        ensures { self.new ≡ self.old }
+    {
+        if !self.may_evict(at) {
+            return;
+        }
+        let _ = self.catch_up(place, alloc, at, Algorithm::Sha256);
+        let _ = self.catch_up(place, alloc, at, Algorithm::Sha512);
+        self.evict_one(place, alloc, at);
+    }
+
+    /// Whether a session has bytes in memory that files have too.
+    fn may_evict(&self, at: &UploadRef) -> bool {
+        self.open
+            .get(at)
+            .is_some_and(|session| session.received.may_evict())
+    }
+
+    /// The same as `evict`, once the hashes hold the bytes.
+    fn evict_one<P: HashPlace>(&mut self, place: &P, alloc: Global, at: &UploadRef)
+        ensures { self.new ≡ self.old }
+    {
+        let Some(session) = self.open.get_mut(at) else {
+            return;
+        };
+        session.received.evict(place, alloc);
+    }
+
     /// Has the bytes of idle sessions go, of some at once, so that there is room for others (`Upload::give_way`).
     /// Nothing that is seen changes.
     pub fn give_way<P: HashPlace>(&mut self, place: &P, alloc: Global, max_idle: u64, now: u64)

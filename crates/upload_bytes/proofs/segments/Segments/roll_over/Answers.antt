@@ -11,15 +11,17 @@ invariant_of-self-2 c =
     let tail : List ℕ = c.self.inside.tail in
     let settled : concat new ≡ concat old ++ tail = search (rules, concat-with_part) in
     let front : concat old ≡ concat (take c.len-had.result new) = search (rules, arith, front_of) in
-    let held : IfSome c.self.inside.stretches (λ s. concat s.items ≡ concat (take c.len-had.result new)) =
-    subst (λ x. IfSome c.self.inside.stretches (λ s. concat s.items ≡ x)) front
-    (of_mapped (λ s. s.items) (λ s. concat s ≡ concat old) c.self.inside.stretches c.self.invariant.same) in
+    let base : List ℕ = c.self.inside.gone in
+    let held : IfSome c.self.inside.stretches (λ s. concat s.items ≡ base ++ concat (take c.len-had.result new)) =
+    subst (λ x. IfSome c.self.inside.stretches (λ s. concat s.items ≡ base ++ x)) front
+    (of_mapped (λ s. s.items) (λ s. concat s ≡ base ++ concat old) c.self.inside.stretches c.self.invariant.same) in
     record {
       counted = search (rules, arith, length-append, settled);
+      gone = search (rules);
       same =
-          mapped (λ s. s.items) (λ s. concat s ≡ concat new) c.with_parts.result
-          (subst (λ parts. IfSome c.with_parts.result (λ s. concat s.items ≡ concat parts)) c.as_slice.ensures.value
-          (c.with_parts.ensures (search (rules, held))));
+          mapped (λ s. s.items) (λ s. concat s ≡ base ++ concat new) c.with_parts.result
+          (subst (λ parts. IfSome c.with_parts.result (λ s. concat s.items ≡ base ++ concat parts))
+          c.as_slice.ensures.value (c.with_parts.ensures base (search (rules, held))));
     }
 
 pub returns-clause-more : goal.returns-clause-more

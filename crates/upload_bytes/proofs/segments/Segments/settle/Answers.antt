@@ -14,20 +14,22 @@ invariant_of-self-2 c =
     let bytes : List ℕ = bytes_in c.args.body in
     let all : concat new ≡ (concat old ++ tail) ++ bytes = search (rules, concat-with_part, concat-with_body) in
     let front : concat old ≡ concat (take c.len-had.result mid) = search (rules, arith, front_of) in
-    let held : IfSome c.self.inside.stretches (λ s. concat s.items ≡ concat (take c.len-had.result mid)) =
-    subst (λ x. IfSome c.self.inside.stretches (λ s. concat s.items ≡ x)) front
-    (of_mapped (λ s. s.items) (λ s. concat s ≡ concat old) c.self.inside.stretches c.self.invariant.same) in
-    let before : IfSome c.with_parts-stretches.result (λ s. concat s.items ≡ concat mid) =
-    subst (λ parts. IfSome c.with_parts-stretches.result (λ s. concat s.items ≡ concat parts)) c.as_slice.ensures.value
-    (c.with_parts-stretches.ensures (search (rules, held))) in
+    let base : List ℕ = c.self.inside.gone in
+    let held : IfSome c.self.inside.stretches (λ s. concat s.items ≡ base ++ concat (take c.len-had.result mid)) =
+    subst (λ x. IfSome c.self.inside.stretches (λ s. concat s.items ≡ base ++ x)) front
+    (of_mapped (λ s. s.items) (λ s. concat s ≡ base ++ concat old) c.self.inside.stretches c.self.invariant.same) in
+    let before : IfSome c.with_parts-stretches.result (λ s. concat s.items ≡ base ++ concat mid) =
+    subst (λ parts. IfSome c.with_parts-stretches.result (λ s. concat s.items ≡ base ++ concat parts))
+    c.as_slice.ensures.value (c.with_parts-stretches.ensures base (search (rules, held))) in
     let files : IfSome c.args.files (λ files. files ≡ concat c.args.body.parts.items ++ c.in-Ok.last) =
     subst (λ last. IfSome c.args.files (λ files. files ≡ concat c.args.body.parts.items ++ last))
     (sym c.in-Ok.ensures.ok) c.requires.filed in
     record {
       counted = search (rules, arith, length-append, all);
+      gone = search (rules);
       same =
-          mapped (λ s. s.items) (λ s. concat s ≡ concat new) c.settle_body.result
-          (c.settle_body.ensures.same before files);
+          mapped (λ s. s.items) (λ s. concat s ≡ base ++ concat new) c.settle_body.result
+          (c.settle_body.ensures.same base before files);
     }
 
 pub returns-clause-more : goal.returns-clause-more
