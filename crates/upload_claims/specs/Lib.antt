@@ -1,0 +1,15 @@
+pub mod Claims
+pub mod Fold
+pub mod Noted
+pub mod Standing
+pub mod Laws
+pub mod Checkpoint
+pub mod Lost
+pub mod Codes
+pub mod Kept
+pub mod Fields
+pub mod Texts
+pub mod Records
+pub mod Damage
+pub mod Saved
+pub mod Adoption
