@@ -9,14 +9,12 @@ to the address, which is 127.0.0.1:5090 if none is told. Exit status 1 if someth
 another program has the address.
 """
 import argparse
-import contextlib
 import http.client
 import os
 import re
 import socket
 import ssl
 import sys
-import threading
 import time
 
 import servers
@@ -26,8 +24,6 @@ FORM = re.compile(r"(http://)?([^/]+:[0-9]+)/?")
 PLACE = re.compile(r"[^/]+:[0-9]+")
 # how long the registry may take for a connection, and then for each part of a reply, in seconds
 PATIENCE = 10
-# a wait is told after so many
-TOLD = 3
 # what is wrong, by the status of GET /v2/
 WRONG = {
     400: "it isn't a registry; or it speaks TLS: REGISTRY=HOST:PORT, without http://",
@@ -57,18 +53,6 @@ def words_of(words):
     parser.add_argument("--ca", default="")
     parser.add_argument("--at", default=ADDRESS)
     return parser.parse_args(words)
-
-
-@contextlib.contextmanager
-def told_wait(registry):
-    """Says what is waited for, if that takes more than a moment."""
-    timer = threading.Timer(TOLD, lambda: print(f"waits for {registry}", file=sys.stderr, flush=True))
-    timer.daemon = True
-    timer.start()
-    try:
-        yield
-    finally:
-        timer.cancel()
 
 
 def why_no_tls(error, registry):
@@ -163,13 +147,13 @@ def serve(told, folder):
         # HAProxy finds no address in a certificate either
         trusted.check_hostname = not servers.is_address(servers.place(registry)[0])
     login = text_of("LOGIN", told.login).strip() if told.login else None
-    with told_wait(registry):
+    with servers.told_wait(registry):
         why = why_no_reply(registry, trusted)
     if why:
         print(f"can't push to {registry}: {why}", file=sys.stderr)
         return 1
     with servers.Adapter(folder, registry, certificates, login, told.at) as adapter:
-        with told_wait(registry):
+        with servers.told_wait(registry):
             why = why_not(told.at)
         if why:
             print(f"{registry} {why}", file=sys.stderr)

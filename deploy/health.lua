@@ -1,5 +1,6 @@
--- GET /health: how each part of the registry is, a line each, and 503 if one isn't well. manifests.lua gives the table
--- of functions that keeps manifests, and what tells why they were refused of late.
+-- GET /health: how each part of the registry is, a line each, and 503 if one is down. A full one isn't: who takes a
+-- registry away for that takes its pulls away too. manifests.lua gives the table of functions that keeps manifests, and
+-- what tells why they were refused of late.
 --
 -- HAProxy sees whether a shard takes connections (its backend watch), and tells here which one refused a request for
 -- want of room (`lua.told`). Redis is asked. What it refused stands for a while too: if its disk is full, it ends at
@@ -20,8 +21,9 @@ core.register_fetches("told", function(txn, state)
   return state
 end)
 
+-- How a shard is, and whether it is down.
 local function state_of(shard, server)
-  if not server:get_stats().status:find("^UP") then return "takes no connections" end
+  if not server:get_stats().status:find("^UP") then return "takes no connections", true end
   local refusal = refusals[shard]
   if refusal and core.now().sec - refusal.second < TOLD then return refusal.state end
   return "well"
@@ -31,13 +33,15 @@ return function(store, told_of_late)
   core.register_service("health", "http", function(applet)
     local parts = {}
     for shard, server in pairs(core.backends["watch"].servers) do
-      parts[#parts + 1] = {name = shard, state = state_of(shard, server)}
+      local state, is_down = state_of(shard, server)
+      parts[#parts + 1] = {name = shard, state = state, is_down = is_down}
     end
     table.sort(parts, function(one, other) return one.name < other.name end)
-    parts[#parts + 1] = {name = store.name, state = store.fault() or told_of_late() or "well"}
+    local fault = store.fault()
+    parts[#parts + 1] = {name = store.name, state = fault or told_of_late() or "well", is_down = fault ~= nil}
     local status, lines = 200, {}
     for at, part in ipairs(parts) do
-      if part.state ~= "well" then status = 503 end
+      if part.is_down then status = 503 end
       lines[at] = part.name .. ": " .. part.state .. "\n"
     end
     local body = table.concat(lines)

@@ -7,6 +7,10 @@
 -- for each blob. If the mark has gone, all that a manifest names is asked for again; if a blob of it has gone, the
 -- manifest goes, with its tags and with the indexes that name it.
 --
+-- A repository moves to another shard if one is added or taken away, and its blobs stay where they are. So a manifest
+-- has the shard on which all that it names was found last. If something of it isn't on another one, nothing was lost:
+-- the manifest isn't handed out, and stays, until its blobs have moved too.
+--
 -- Where the manifests are: in Redis if FRONT_REDIS has its address, else in HAProxy's memory. Both are a table of these
 -- functions, which yield a 503 by `error` if they can't do their work:
 --   find(name, reference, is_digest, with_body): the digest and the record, or nil; without its text, unless that is
@@ -15,14 +19,16 @@
 --   put(name, digest, record, tag): "kept"; "unknown" if a manifest that is named isn't there; "full"
 --   drop(name, digest, stamp): drops a manifest, its tags and what names it; with a stamp only if it is of that put.
 --     Whether it was there
+--   move(name, digest, stamp, shard): notes on which shard what a manifest of that put names was found
 --   untag(name, tag): whether it was there
 --   tags(name, last, most), repositories(last, most): a list in order, and whether more follow; nil if the repository
 --     has no manifest
---   any(name): the digest of a manifest of the repository, or nil
+--   any(name, shard): the digest of a manifest of the repository, of that shard if there is one, and whether it is; or
+--     nil
 --   fault(): why it can't do its work now, or nil; and `name`, which /health calls it by
 -- A record has the text (`body`), its `length`, its media type, the digests of the blobs and manifests that it names
--- (if at hand: else its text has them), how much is below it (`below`), the bytes that it takes (`size`), and which put
--- it came with (`stamp`).
+-- (if at hand: else its text has them), how much is below it (`below`), the bytes that it takes (`size`), the number of
+-- its shard (if it is known), and which put it came with (`stamp`).
 
 local MIB = 1048576
 -- where the blobs are asked for without a login
@@ -33,7 +39,7 @@ local KEPT_IN = os.getenv("FRONT_REDIS") and "manifests_in_redis.lua" or "manife
 local TOLD = tonumber(os.getenv("FRONT_TOLD"))
 local read_json, key_of = dofile(FOLDER .. "json.lua"), dofile(FOLDER .. "keys.lua")
 -- bytes of all manifests and tags
-local store = dofile(FOLDER .. KEPT_IN)(tonumber(os.getenv("FRONT_HELD")) * MIB, key_of)
+local store = dofile(FOLDER .. KEPT_IN)(tonumber(os.getenv("FRONT_HELD")) * MIB, key_of, FOLDER)
 
 -- What is let go of stays in Lua's table of texts until it is collected, and what collides there is compared with it.
 -- By itself Lua would let so much gather as it holds.
@@ -254,8 +260,10 @@ end
 local marks = {}
 -- of what was found: the mark beside which it was; of a repository its shard
 local remembered, remember = new_memory()
--- whether a repository lost a manifest with its shard
-local has_lost, loses = new_memory()
+-- what became of a repository's manifest that isn't handed out any more
+local fate_of, note_fate = new_memory()
+local LOST = "what it had before a restart was lost with its shard: push it again"
+local MOVED = "it has moved to another shard, and its blobs have not: move them (OPERATIONS.md), or push it again"
 
 -- Whether a blob is there, 200 or 404, else 503; and the shard that says so. `shard` has a number if it is to be asked
 -- of that one, else 0.
@@ -306,12 +314,12 @@ local function mark_at(applet, shard)
   return true, marks[shard] or new_mark(applet, shard)
 end
 
--- The mark of a repository's shard.
+-- The mark of a repository's shard, and the shard's number.
 local function mark_of(applet, name)
   local shard, answers, mark = shard_of(name), false, nil
   if shard then answers, mark = mark_at(applet, shard) end
   if not answers then refuse(503, "UNAVAILABLE", "the shard of this repository does not answer") end
-  return mark
+  return mark, shard
 end
 
 -- Whether all of these are there: 200, else 404 or 503.
@@ -339,7 +347,23 @@ local function status_of_named(name, blobs, manifests, mark)
   return status
 end
 
--- The same of a manifest that may be held. One that names what has gone is dropped.
+-- Notes on which shard what a manifest names was found. If something of it isn't on the shard that it was found on
+-- before, it is lost, and the manifest is dropped.
+local function settle(name, digest, record, status)
+  local shard = shard_of(name)
+  if status == 200 and shard and record.shard ~= shard then
+    store.move(name, digest, record.stamp, shard)
+    note_fate(name, false)
+  end
+  if status ~= 404 then return end
+  note_fate(name, record.shard == shard and LOST or MOVED)
+  if record.shard == shard then
+    core.log(core.notice, "dropped, since what it names has gone: " .. name .. "@" .. digest)
+    store.drop(name, digest, record.stamp)
+  end
+end
+
+-- The same of a manifest that may be held.
 status_of_manifest = function(name, digest, mark)
   local what = "manifest " .. name .. "@" .. digest
   if mark and remembered(what) == mark then return 200 end
@@ -358,11 +382,7 @@ status_of_manifest = function(name, digest, mark)
   end
   local status = status_of_named(name, blobs, manifests, mark)
   if status == 200 and mark then remember(what, mark) end
-  if status == 404 then
-    core.log(core.notice, "dropped, since what it names has gone: " .. name .. "@" .. digest)
-    store.drop(name, digest, record.stamp)
-    loses(name, true)
-  end
+  settle(name, digest, record, status)
   return status
 end
 
@@ -443,7 +463,8 @@ local function put(applet, name, reference, algorithm)
     below = below, stamp = new_text(), length = #body,
     size = #body + DIGEST_SIZE * (#blobs + #manifests) + OVERHEAD,
   }
-  local mark = mark_of(applet, name)
+  local mark
+  mark, record.shard = mark_of(applet, name)
   local status = status_of_named(name, blobs, manifests, mark)
   if status == 404 then
     refuse(404, "MANIFEST_BLOB_UNKNOWN", "the repository doesn't have all that the manifest names")
@@ -461,10 +482,8 @@ local function put(applet, name, reference, algorithm)
 end
 
 local function not_there(name, code, message)
-  if has_lost(name) then
-    message = message .. ": what it had before a restart was lost with its shard: push it again"
-  end
-  refuse(404, code, message)
+  local fate = fate_of(name)
+  refuse(404, code, fate and message .. ": " .. fate or message)
 end
 
 local function no_such_manifest(name)
@@ -474,7 +493,8 @@ end
 local function get(applet, name, reference, algorithm)
   local digest, record = store.find(name, reference, algorithm ~= nil, applet.method ~= "HEAD")
   if not digest then no_such_manifest(name) end
-  local status = status_of_manifest(name, digest, mark_of(applet, name))
+  local mark = mark_of(applet, name)
+  local status = status_of_manifest(name, digest, mark)
   if status == 404 then no_such_manifest(name) end
   if status ~= 200 then refuse(503, "UNAVAILABLE", "the shard of this repository does not answer") end
   answer(applet, 200, {["Content-Type"] = record.type, ["Docker-Content-Digest"] = digest}, record.body, record.length)
@@ -495,16 +515,20 @@ local function asked_for(applet)
   return math.floor(math.min(most or LONGEST_LIST, LONGEST_LIST)), last
 end
 
+-- Those of a list that are there, in quotes: no name and no tag has a character that JSON escapes.
+local function quoted(list, is_there)
+  local texts = {}
+  for _, text in ipairs(list) do
+    if is_there(text) then texts[#texts + 1] = '"' .. text .. '"' end
+  end
+  return texts
+end
+
 -- What of a list is there, with a link to the rest.
-local function answer_list(applet, list, is_there, more, most, form)
+local function answer_list(applet, list, texts, more, most, form)
   local fields = {["Content-Type"] = "application/json"}
   if more and #list > 0 then
     fields["Link"] = "<" .. applet.path .. "?n=" .. most .. "&last=" .. list[#list] .. '>; rel="next"'
-  end
-  local texts = {}
-  -- no name and no tag has a character that JSON escapes
-  for _, text in ipairs(list) do
-    if is_there(text) then texts[#texts + 1] = '"' .. text .. '"' end
   end
   answer(applet, 200, fields, form:format("[" .. table.concat(texts, ",") .. "]"))
 end
@@ -524,14 +548,18 @@ local function marks_now(applet)
   end
 end
 
--- Whether a repository has a manifest. What was lost with its shard is dropped; if the shard doesn't answer, what there
--- was is taken to be there.
+-- Whether a repository has a manifest. What was lost with its shard is dropped; of those that are of another shard one
+-- is looked at. If the shard doesn't answer, what there was is taken to be there.
 local function has_manifest(name, answers, mark)
-  local digest, before
+  local before, digest, is_here, status
   repeat
-    digest, before = store.any(name), digest
+    before = digest
+    digest, is_here = store.any(name, answers and shard_of(name))
     if not digest then return false end
-  until not answers or digest == before or status_of_manifest(name, digest, mark) ~= 404
+    if not answers or digest == before then return true end
+    status = status_of_manifest(name, digest, mark)
+    if status == 404 and not is_here then return false end
+  until status ~= 404
   return true
 end
 
@@ -539,22 +567,22 @@ local function list_tags(applet, name)
   local most, last = asked_for(applet)
   local answers, mark = marks_now(applet)(name)
   local tags, more = store.tags(name, last, most)
-  if not tags or not has_manifest(name, answers, mark) then
-    not_there(name, "NAME_UNKNOWN", "the repository has no manifest")
-  end
-  local function is_there(tag)
+  local texts = quoted(tags or {}, function(tag)
     local digest = store.find(name, tag, false)
     return digest and not (answers and status_of_manifest(name, digest, mark) == 404)
+  end)
+  if not tags or #texts == 0 and not has_manifest(name, answers, mark) then
+    not_there(name, "NAME_UNKNOWN", "the repository has no manifest")
   end
-  answer_list(applet, tags, is_there, more, most, '{"name":"' .. name .. '","tags":%s}')
+  answer_list(applet, tags, texts, more, most, '{"name":"' .. name .. '","tags":%s}')
 end
 
 local function list_repositories(applet)
   local most, last = asked_for(applet)
   local names, more = store.repositories(last, most)
   local mark_now = marks_now(applet)
-  local function is_there(name) return has_manifest(name, mark_now(name)) end
-  answer_list(applet, names, is_there, more, most, '{"repositories":%s}')
+  local texts = quoted(names, function(name) return has_manifest(name, mark_now(name)) end)
+  answer_list(applet, names, texts, more, most, '{"repositories":%s}')
 end
 
 local METHODS = {GET = get, HEAD = get, PUT = put, DELETE = delete}

@@ -1,5 +1,5 @@
--- Manifests and tags in HAProxy's memory: a restart or a reload of HAProxy loses them. manifests.lua says what the
--- functions are for.
+-- Manifests and tags in HAProxy's memory: a restart or a reload of HAProxy loses them, so no repository moves while
+-- they are there (`move`). manifests.lua says what the functions are for.
 
 -- bytes that an entry takes beside its text, about
 local OVERHEAD = 512
@@ -95,7 +95,7 @@ return function(most_held, key_of)
     if not record then return nil end
     return record.digest, {
       type = short(record.type), stamp = record.stamp, length = record.length, body = record.body,
-      blobs = record.blobs, manifests = record.manifests,
+      blobs = record.blobs, manifests = record.manifests, shard = record.shard,
     }
   end
 
@@ -220,7 +220,7 @@ return function(most_held, key_of)
   store.any = function(name)
     local repository = repositories[key_of(name)]
     local _, record = next(repository and repository.records or {})
-    return record and record.digest
+    return record and record.digest, true
   end
 
   store.name = "manifests"

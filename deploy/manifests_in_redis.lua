@@ -2,10 +2,10 @@
 -- What changes something is one script, so Redis does all of it or nothing, and nothing comes between; and Redis
 -- answers once it is on disk.
 --
--- The keys of a manifest, each with NAME@DIGEST behind it: manifest: (type, stamp, size, below, length), body:, tagged:
--- (its tags), names: and above: (the manifests that it names, and those that name it). Of a repository, with NAME
--- behind it: manifests: (their digests), digest: (by tag), tags: (in order). Of all: repositories (their names in
--- order), and held (the bytes of all).
+-- The keys of a manifest, each with NAME@DIGEST behind it: manifest: (type, stamp, size, below, length, shard, and
+-- used, the second in which it was put or lost a tag last), body:, tagged: (its tags), names: and above: (the manifests
+-- that it names, and those that name it). Of a repository, with NAME behind it: manifests: (their digests), digest: (by
+-- tag), tags: (in order). Of all: repositories (their names in order), and held (the bytes of all).
 
 local HOST, PORT = os.getenv("FRONT_REDIS"):match("^(.*):(%d+)$")
 local PASSWORD = os.getenv("FRONT_REDIS_PASSWORD")
@@ -21,13 +21,13 @@ local digest = ARGV[2]
 if ARGV[3] == "tag" then digest = redis.call("HGET", "digest:" .. ARGV[1], ARGV[2]) end
 local at = digest and ARGV[1] .. "@" .. digest
 if not at or redis.call("EXISTS", "manifest:" .. at) == 0 then return false end
-return {digest, unpack(redis.call("HMGET", "manifest:" .. at, "type", "stamp", "length"))}
+return {digest, unpack(redis.call("HMGET", "manifest:" .. at, "type", "stamp", "length", "shard"))}
 ]]
 
 local PUT = [[
-local name, digest, kind, stamp, size, below, body, tag, most, overhead = unpack(ARGV, 1, 10)
+local name, digest, kind, stamp, size, below, shard, body, tag, most, overhead = unpack(ARGV, 1, 11)
 local at = name .. "@" .. digest
-for named = 11, #ARGV do
+for named = 12, #ARGV do
   if redis.call("EXISTS", "manifest:" .. name .. "@" .. ARGV[named]) == 0 then return "unknown" end
 end
 local more = size - (redis.call("HGET", "manifest:" .. at, "size") or 0)
@@ -35,60 +35,28 @@ local old = tag ~= "" and redis.call("HGET", "digest:" .. name, tag)
 if tag ~= "" and not old then more = more + #tag + overhead end
 if more > 0 and (redis.call("GET", "held") or 0) + more > tonumber(most) then return "full" end
 redis.call("INCRBY", "held", more)
-redis.call("HSET", "manifest:" .. at, "type", kind, "stamp", stamp, "size", size, "below", below, "length", #body)
+local now = redis.call("TIME")[1]
+redis.call(
+  "HSET", "manifest:" .. at, "type", kind, "stamp", stamp, "size", size, "below", below, "length", #body,
+  "shard", shard, "used", now
+)
 redis.call("SET", "body:" .. at, body)
 redis.call("SADD", "manifests:" .. name, digest)
-for named = 11, #ARGV do
+for named = 12, #ARGV do
   redis.call("SADD", "names:" .. at, ARGV[named])
   redis.call("SADD", "above:" .. name .. "@" .. ARGV[named], digest)
 end
 if tag ~= "" then
-  if old then redis.call("SREM", "tagged:" .. name .. "@" .. old, tag) end
+  if old then
+    redis.call("SREM", "tagged:" .. name .. "@" .. old, tag)
+    redis.call("HSET", "manifest:" .. name .. "@" .. old, "used", now)
+  end
   redis.call("HSET", "digest:" .. name, tag, digest)
   redis.call("ZADD", "tags:" .. name, 0, tag)
   redis.call("SADD", "tagged:" .. at, tag)
 end
 redis.call("ZADD", "repositories", 0, name)
 return "kept"
-]]
-
--- Redis's Lua has all texts in one table, and hashes them without a secret. So a script that goes through many of them
--- holds a hundred at a time: Redis itself has those that are left to drop.
-local DROP = [[
-local name, first, stamp, overhead = unpack(ARGV)
-local is = redis.call("HGET", "manifest:" .. name .. "@" .. first, "stamp")
-if not is or stamp ~= "" and is ~= stamp then return 0 end
-local held = 0
-local function take(set, work)
-  repeat
-    local members = redis.call("SPOP", set, 100)
-    for _, member in ipairs(members) do work(member) end
-    held = held + #members
-    if held > 1000 then
-      collectgarbage()
-      held = 0
-    end
-  until #members == 0
-end
-redis.call("SADD", "dropping", first)
-take("dropping", function(digest)
-  local at = name .. "@" .. digest
-  local freed = redis.call("HGET", "manifest:" .. at, "size")
-  if freed then
-    take("tagged:" .. at, function(tag)
-      redis.call("HDEL", "digest:" .. name, tag)
-      redis.call("ZREM", "tags:" .. name, tag)
-      freed = freed + #tag + overhead
-    end)
-    take("above:" .. at, function(above) redis.call("SADD", "dropping", above) end)
-    take("names:" .. at, function(named) redis.call("SREM", "above:" .. name .. "@" .. named, digest) end)
-    redis.call("DEL", "manifest:" .. at, "body:" .. at)
-    redis.call("SREM", "manifests:" .. name, digest)
-    redis.call("DECRBY", "held", freed)
-  end
-end)
-if redis.call("EXISTS", "manifests:" .. name) == 0 then redis.call("ZREM", "repositories", name) end
-return 1
 ]]
 
 local UNTAG = [[
@@ -98,8 +66,38 @@ if not digest then return 0 end
 redis.call("HDEL", "digest:" .. name, tag)
 redis.call("ZREM", "tags:" .. name, tag)
 redis.call("SREM", "tagged:" .. name .. "@" .. digest, tag)
+redis.call("HSET", "manifest:" .. name .. "@" .. digest, "used", redis.call("TIME")[1])
 redis.call("DECRBY", "held", #tag + overhead)
 return 1
+]]
+
+local MOVE = [[
+local at = "manifest:" .. ARGV[1] .. "@" .. ARGV[2]
+if redis.call("HGET", at, "stamp") == ARGV[3] then redis.call("HSET", at, "shard", ARGV[4]) end
+return 1
+]]
+
+-- Whichever comes, if it is of the shard; else the first that is, a hundred at a time as in drop.lua.
+local ANY = [[
+local function is_here(digest)
+  return redis.call("HGET", "manifest:" .. ARGV[1] .. "@" .. digest, "shard") == ARGV[2]
+end
+local key, cursor, seen = "manifests:" .. ARGV[1], "0", 0
+local any = redis.call("SRANDMEMBER", key)
+if not any or is_here(any) then return {any, 1} end
+repeat
+  local found = redis.call("SSCAN", key, cursor, "COUNT", 100)
+  cursor = found[1]
+  for _, digest in ipairs(found[2]) do
+    if is_here(digest) then return {digest, 1} end
+  end
+  seen = seen + #found[2]
+  if seen > 1000 then
+    collectgarbage()
+    seen = 0
+  end
+until cursor == "0"
+return {any, 0}
 ]]
 
 local TAGS = [[
@@ -200,17 +198,22 @@ local function page(last, most, ask_for)
   return list, true
 end
 
-return function(most_held)
+return function(most_held, _, folder)
+  local file = assert(io.open(folder .. "drop.lua"))
+  local drop = file:read("a")
+  file:close()
   return {
     find = function(name, reference, is_digest, with_body)
       return connected(function(ask)
         local found = ask("EVAL", FIND, 0, name, reference, is_digest and "digest" or "tag")
         if not found then return nil end
-        local digest, kind, stamp, length = table.unpack(found)
+        local digest, kind, stamp, length, shard = table.unpack(found)
         length = math.tointeger(tonumber(length))
         local body = with_body and text_at(ask, "body:" .. name .. "@" .. digest, length) or ""
         if with_body and #body < length then return nil end
-        return digest, {type = kind, stamp = stamp, length = length, body = body}
+        return digest, {
+          type = kind, stamp = stamp, length = length, body = body, shard = shard and math.tointeger(tonumber(shard)),
+        }
       end)
     end,
     below = function(name, digests)
@@ -227,14 +230,16 @@ return function(most_held)
     end,
     put = function(name, digest, record, tag)
       return run(
-        PUT, name, digest, record.type, record.stamp, record.size, record.below, record.body, tag or "", most_held,
-        OVERHEAD, table.unpack(record.manifests)
+        PUT, name, digest, record.type, record.stamp, record.size, record.below, record.shard, record.body, tag or "",
+        most_held, OVERHEAD, table.unpack(record.manifests)
       )
     end,
-    drop = function(name, digest, stamp) return run(DROP, name, digest, stamp or "", OVERHEAD) == 1 end,
+    drop = function(name, digest, stamp) return run(drop, name, digest, stamp or "", OVERHEAD) == 1 end,
     untag = function(name, tag) return run(UNTAG, name, tag, OVERHEAD) == 1 end,
-    any = function(name)
-      return connected(function(ask) return ask("SRANDMEMBER", "manifests:" .. name) end) or nil
+    move = function(name, digest, stamp, shard) run(MOVE, name, digest, stamp, shard) end,
+    any = function(name, shard)
+      local digest, is_here = table.unpack(run(ANY, name, shard or ""))
+      return digest or nil, is_here == 1
     end,
     name = "redis",
     fault = function()

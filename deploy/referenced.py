@@ -2,20 +2,32 @@
 """Prints which blobs the manifests refer to: a line `NAME DIGEST` for each blob of each repository, as `blobd compact`
 takes it.
 
-    referenced.py ADDRESS > FILE
+    referenced.py ADDRESS > FILE               of all manifests
+    referenced.py --tagged ADDRESS > FILE      of those alone that stay, as the next two tell
+    referenced.py --untagged ADDRESS           prints the other manifests, in lines of the same form
+    referenced.py --untagged --delete ADDRESS  deletes them, and prints those that it has deleted
+
+A manifest stays if it has a tag, if it was pushed or lost a tag within the last day (--grace SECONDS: within so many),
+or if one that stays names it.
 
 ADDRESS is that of the Redis that keeps the manifests; FRONT_REDIS_PASSWORD has its password. If it can't be asked, the
-exit status is 1, and nothing is printed: the list wouldn't be whole. A manifest that can't be read is named on standard
+exit status is 1, and no list is printed: it wouldn't be whole. A manifest that can't be read is named on standard
 error, and refers to whatever its text has of the form of a digest.
 """
+import argparse
 import json
 import os
 import re
 import socket
 import sys
+import typing
 
 DIGEST = re.compile(r"sha256:[0-9a-f]{64}|sha512:[0-9a-f]{128}")
 PATIENCE = 60
+# seconds
+DAY = 86400
+# the script that drops a manifest
+DROP = os.path.join(os.path.dirname(os.path.abspath(__file__)), "drop.lua")
 
 
 class Refused(Exception):
@@ -105,30 +117,119 @@ def referred(name, digest, body):
         return kept
 
 
-def referenced(redis):
-    """The pairs of a repository and a digest that its manifests have."""
+class Manifest(typing.NamedTuple):
+    """A manifest as it was found: which put it was of, whether it stays whatever others name, the manifests that it
+    names, and all digests that it refers to."""
+
+    stamp: bytes
+    is_root: bool
+    names: list
+    digests: set
+
+
+def manifests_of(redis, name, since):
+    """The manifests of a repository by their digests. One stays by itself if it has a tag, or was used since then."""
+    found = {}
+    for digest in redis.ask("SMEMBERS", b"manifests:" + name):
+        at = name + b"@" + digest
+        stamp, used = redis.ask("HMGET", b"manifest:" + at, "stamp", "used")
+        is_root = int(used or 0) > since or redis.ask("EXISTS", b"tagged:" + at) == 1
+        names = [named.decode() for named in redis.ask("SMEMBERS", b"names:" + at)]
+        body = redis.ask("GET", b"body:" + at)
+        # one that was deleted meanwhile refers to nothing
+        if body is not None:
+            found[digest.decode()] = Manifest(stamp, is_root, names, referred(name, digest, body))
+    return found
+
+
+def staying(found):
+    """Those of a repository's manifests that stay: the roots, and what is named by one that stays."""
+    stays, left = {}, [digest for digest, one in found.items() if one.is_root]
+    while left:
+        digest = left.pop()
+        if digest in found and digest not in stays:
+            stays[digest] = found[digest]
+            left += found[digest].names
+    return stays
+
+
+def repositories(redis, grace):
+    """Each repository's name, its manifests, and those of them that stay."""
+    since = int(redis.ask("TIME")[0]) - grace
     for name in redis.ask("ZRANGE", "repositories", "0", "-1"):
-        found = set()
-        for digest in redis.ask("SMEMBERS", b"manifests:" + name):
-            body = redis.ask("GET", b"body:" + name + b"@" + digest)
-            # one that was deleted meanwhile refers to nothing
-            if body is not None:
-                found |= referred(name, digest, body)
-        for digest in sorted(found):
-            yield name.decode(), digest
+        found = manifests_of(redis, name, since)
+        yield name.decode(), found, staying(found)
 
 
-def main(address):
+def untagged(redis, grace):
+    """The manifests that don't stay: the name, the digest and the stamp of each."""
+    for name, found, stays in repositories(redis, grace):
+        yield from ((name, digest, found[digest].stamp) for digest in sorted(found.keys() - stays.keys()))
+
+
+def delete(redis, manifests):
+    """Deletes manifests, and gives those that it has deleted. One stays if it was put again meanwhile, or if an index
+    that stays names it: so the indexes among them go first."""
+    with open(DROP, encoding="utf-8") as file:
+        script = file.read()
+    left, before = list(manifests), None
+    while left != before:
+        left, before = [], left
+        for one in before:
+            if redis.ask("EVAL", script, "0", *one, "0", "unnamed"):
+                yield one
+            else:
+                left.append(one)
+
+
+def referenced(redis, grace=None):
+    """The pairs of a repository and a digest that its manifests have; those alone that stay if a grace is told."""
+    for name, found, stays in repositories(redis, grace or 0):
+        manifests = found if grace is None else stays
+        for digest in sorted(set().union(*(one.digests for one in manifests.values()))):
+            yield name, digest
+
+
+def lines_of(redis, words):
+    """The lines that the words ask for."""
+    if not words.untagged:
+        # all of them first: a list that isn't whole is none
+        return list(referenced(redis, words.grace if words.tagged else None))
+    found = list(untagged(redis, words.grace))
+    return delete(redis, found) if words.delete else found
+
+
+def seconds(text):
+    """A number of seconds, as `blobd compact` takes it."""
+    if not re.fullmatch(r"[0-9]{1,10}", text):
+        raise argparse.ArgumentTypeError("SECONDS are digits alone, as 86400")
+    return int(text)
+
+
+def words_of(words):
+    parser = argparse.ArgumentParser(description=__doc__, formatter_class=argparse.RawDescriptionHelpFormatter)
+    which = parser.add_mutually_exclusive_group()
+    which.add_argument("--tagged", action="store_true")
+    which.add_argument("--untagged", action="store_true")
+    parser.add_argument("--delete", action="store_true")
+    parser.add_argument("--grace", metavar="SECONDS", type=seconds, default=DAY)
+    parser.add_argument("address", metavar="ADDRESS")
+    told = parser.parse_args(words)
+    if told.delete and not told.untagged:
+        parser.error("--delete goes with --untagged")
+    return told
+
+
+def main(words):
+    told = words_of(words)
     try:
-        redis = Redis(address, os.environ.get("FRONT_REDIS_PASSWORD"))
-        lines = [f"{name} {digest}\n" for name, digest in referenced(redis)]
-        sys.stdout.write("".join(lines))
+        redis = Redis(told.address, os.environ.get("FRONT_REDIS_PASSWORD"))
+        for name, digest, *_ in lines_of(redis, told):
+            print(name, digest)
         sys.stdout.flush()
     except (OSError, Refused, ValueError) as error:
         sys.exit(f"referenced.py: {error}")
 
 
 if __name__ == "__main__":
-    if len(sys.argv) != 2:
-        sys.exit(__doc__)
-    main(sys.argv[1])
+    main(sys.argv[1:])

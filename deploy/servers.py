@@ -6,6 +6,7 @@ program that started it is killed.
 import contextlib
 import ctypes
 import errno
+import fcntl
 import ipaddress
 import math
 import os
@@ -16,6 +17,7 @@ import socket
 import subprocess
 import sys
 import tempfile
+import threading
 import time
 
 HERE = os.path.dirname(os.path.abspath(__file__))
@@ -25,8 +27,11 @@ PATH = os.environ.get("PATH", "") + os.pathsep + "/usr/sbin" + os.pathsep + "/sb
 # one heap.
 MALLOC = {"GLIBC_TUNABLES": "glibc.malloc.hugetlb=1:glibc.malloc.mmap_threshold=1048576:glibc.malloc.arena_max=1"}
 PATIENCE = 60
-# how long the servers of a registry that has just been killed may still have their addresses, in seconds
-GOING = 3
+# how long the servers of a registry that has just been killed may still have their addresses, and `blobd` its data
+# directory, while the system takes back its memory, in seconds
+GOING, LOCKED = 3, 10
+# a wait is told after so many seconds
+TOLD = 3
 # how many lines of a log are shown
 LINES = 10
 DIES_WITH_PARENT = 1
@@ -99,6 +104,44 @@ def any_taken(addresses):
     return bool(taken)
 
 
+@contextlib.contextmanager
+def told_wait(what):
+    """Says what is waited for, if that takes more than a moment."""
+    timer = threading.Timer(TOLD, lambda: print(f"waits for {what}", file=sys.stderr, flush=True))
+    timer.daemon = True
+    timer.start()
+    try:
+        yield
+    finally:
+        timer.cancel()
+
+
+def is_locked(path):
+    """Whether a server has this data directory."""
+    with contextlib.suppress(OSError):
+        folder = os.open(path, os.O_RDONLY | os.O_DIRECTORY)
+        try:
+            fcntl.flock(folder, fcntl.LOCK_EX | fcntl.LOCK_NB)
+        except BlockingIOError:
+            return True
+        finally:
+            os.close(folder)
+    return False
+
+
+def stays_locked(path):
+    """Says that another server has this data directory, if one still has it after some seconds."""
+    end = time.monotonic() + LOCKED
+    # an interrupt ends the wait
+    with told_wait(f"the server that has {path}"), contextlib.suppress(KeyboardInterrupt):
+        while is_locked(path) and time.monotonic() < end:
+            time.sleep(0.05)
+    if is_locked(path):
+        print(f"can't use {path}: another server has it (fuser {path} shows which)", file=sys.stderr)
+        return True
+    return False
+
+
 def leave_with_parent():
     ctypes.CDLL(None).prctl(DIES_WITH_PARENT, signal.SIGTERM)
 
@@ -124,6 +167,8 @@ class Service:
     def __init__(self, name, folder, words, addresses, settings=None):
         self.name, self.folder, self.words, self.addresses = name, folder, words, addresses
         self.settings = os.environ | (settings or {})
+        # what somebody waits for until it listens
+        self.waited_for = name
         self.log = os.path.join(folder, f"{name}.log")
         # where in it begins what it printed since it was started
         self.begun = 0
@@ -188,6 +233,12 @@ class Service:
         return self.process is None or self.process.poll() is not None
 
 
+def size_of(folder):
+    """How many bytes the files in it have, about: some may go meanwhile."""
+    paths = (os.path.join(above, name) for above, _, names in os.walk(folder) for name in names)
+    return sum(os.path.getsize(path) for path in paths if os.path.exists(path))
+
+
 def blobd(binary, folder, address, name="blobd", memory=None, workers=2, kept=None):
     """A shard with so many workers; if it is told, with so many bytes of address space, and with a data directory."""
     words = [os.path.abspath(binary), "serve", address]
@@ -195,8 +246,8 @@ def blobd(binary, folder, address, name="blobd", memory=None, workers=2, kept=No
         words = ["prlimit", f"--as={memory}", *words]
     shard = Service(name, folder, words, [address], MALLOC | {"BLOBD_WORKERS": str(workers)})
     if kept:
-        # it reads all of it first
         shard.settings["BLOBD_DATA"], shard.seconds = kept, math.inf
+        shard.waited_for = f"{name}, which reads all of {kept} first ({size_of(kept) >> 20} MiB)"
     return shard
 
 
@@ -234,11 +285,11 @@ def logins(folder, users):
 
 class HAProxy(Service):
     """HAProxy before these shards, each with so many workers, with the certificate and the logins of the folder, on
-    free addresses but for the one given, with more settings."""
+    free addresses but for those given, with more settings."""
 
-    def __init__(self, folder, shards, tls=None, more=None, workers=2):
-        self.tls = tls or free_address()
-        self.plain, self.local, self.status = free_address(), free_address(), free_address()
+    def __init__(self, folder, shards, tls=None, more=None, workers=2, local=None):
+        self.tls, self.local = tls or free_address(), local or free_address()
+        self.plain, self.status = free_address(), free_address()
         settings = {
             "FRONT_TLS": self.tls, "FRONT_PLAIN": self.plain, "FRONT_LOCAL": self.local, "FRONT_STATUS": self.status,
             "FRONT_CERT": os.path.join(folder, "front.pem"), "FRONT_LUA": os.path.join(HERE, "manifests.lua"),
@@ -250,6 +301,14 @@ class HAProxy(Service):
         # with a master process, as Debian's unit has it, so that it can be reloaded
         words = [program("haproxy"), "-W", "-f", os.path.join(HERE, "haproxy.cfg"), "-f", "users.cfg"]
         super().__init__("haproxy", folder, words, [self.tls, self.plain, self.local, self.status], settings)
+
+    def end(self, by=signal.SIGTERM):
+        """Ends its master, and waits for the process that serves: that outlives a master that is killed for a moment,
+        and would take connections which are meant for the next HAProxy there."""
+        super().end(by)
+        end = time.monotonic() + GOING
+        while any(map(is_taken, self.addresses)) and time.monotonic() < end:
+            time.sleep(0.05)
 
     def reload(self):
         """Starts a new process with the settings as they are now; the one before serves what it has begun."""

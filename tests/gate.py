@@ -61,6 +61,7 @@ SCRIPTS = [
     script("the registry: manifests", "registry_manifests"),
     script("the registry: texts that collide", "registry_collisions"),
     script("a memory that all kinds of requests fill", "fills"),
+    script("the registry: its room", "registry_room"),
     script("the registry: clients", "registry_clients"),
     script("what it says that it holds", "serve_status"),
     script("the log of the server", "serve_log"),

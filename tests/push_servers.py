@@ -232,11 +232,12 @@ def finds_no_room(name, server, *words):
 @case()
 def a_full_server(folder):
     """A server that has no more room gives a push up, which says so: after some of its chunks, at the first, and at
-    its opening. What was stored is there, and with more memory the same push goes well."""
+    its opening. What was stored is there. One with a data directory takes the same push in chunks that fit, since the
+    bytes of an upload leave memory."""
     stored, chance, data = [], random.Random(9), os.path.join(folder, "data")
     content = chance.randbytes(20 * MIB)
     path, options = written(folder, content), {"stderr": subprocess.DEVNULL}
-    with Server(env={"BLOBD_DATA": data, "BLOBD_MEMORY": "8M"}, **options) as server:
+    with Server(env={"BLOBD_MEMORY": "8M"}, **options) as server:
         finds_no_room("that is larger than what is left", server, path, "1M")
         finds_no_room("in one chunk", server, path)
         with server.client() as client:
@@ -245,9 +246,9 @@ def a_full_server(folder):
         finds_no_room("to a server without any room", server, path)
         equal("what it left", pull(server, "lib/b", sha256(content)), 404)
         has_all("what was stored", server, stored)
-    with Server(env={"BLOBD_DATA": data, "BLOBD_MEMORY": "64M"}, **options) as server:
-        equal("with more memory", push(server.addr, "lib/b", path), pushed(content))
-        has_all("what was stored, after a start", server, stored)
+    with Server(env={"BLOBD_DATA": data, "BLOBD_MEMORY": "8M"}, **options) as server:
+        finds_no_room("in one chunk, to one with a data directory", server, path)
+        equal("in chunks that fit", push(server.addr, "lib/b", path, "1M"), pushed(content))
 
 
 @case()

@@ -7,11 +7,22 @@ clients of nginx before HAProxy, slow ones too, and `blobd push` through the ada
 import os
 import random
 import signal
-import sys
 import time
 
-from harness import TOP
-from harness.registry import KIB, LOGIN, PROXY, UPLOADED, Client, Site, is_refused, skopeo, write_image
+from harness.registry import (
+    KIB,
+    LOGIN,
+    PROXY,
+    UPLOADED,
+    Client,
+    Site,
+    is_refused,
+    referenced_by,
+    restart,
+    site_with_redis,
+    skopeo,
+    write_image,
+)
 from harness.running import MIB, already, finished, push, pushed, run, told_by, written
 from harness.suite import case, check, equal, main, skip
 from harness.wire import sha256
@@ -56,22 +67,15 @@ def an_image_by_skopeo():
         push_and_pull(site, site.haproxy.tls)
 
 
-def referenced(redis, password):
-    """A run of what lists the blobs that manifests refer to."""
-    words = [sys.executable, os.path.join(TOP, "deploy", "referenced.py"), redis.address]
-    ran = finished(words, env={"FRONT_REDIS_PASSWORD": password})
-    return ran.returncode, ran.stdout
-
-
 def compacted_by_the_list(shard, redis, data):
     """Compacts the data directory of a shard, which is stopped meanwhile, with the list of what manifests refer to."""
     shard.end(signal.SIGKILL)
-    equal("no list without Redis", referenced(redis, "wrong"), (1, ""))
-    status, lines = referenced(redis, "secret")
+    equal("no list without Redis", referenced_by(redis, password="wrong")[:2], (1, []))
+    status, lines, _ = referenced_by(redis)
     equal("a list", status, 0)
     # what was stored in this second is young
     time.sleep(1.1)
-    told, status, more = run("compact", "--grace", "0", data, "-", input=lines)
+    told, status, more = run("compact", "--grace", "0", data, "-", input="".join(f"{line}\n" for line in lines))
     equal("a compaction", (status, more), (0, ""))
     shard.start()
     return lines, told
@@ -82,40 +86,37 @@ def an_image_that_is_deleted(folder):
     """Two images with a layer of both: the manifest of one is deleted, and its other blobs go, by a list of what the
     manifests in Redis refer to. The other image is pulled, and the one that went is pushed again."""
     data = os.path.join(folder, "data")
-    with servers.Redis(folder, "secret") as redis:
-        with Site(more={"FRONT_REDIS": redis.address, "FRONT_REDIS_PASSWORD": "secret"}) as site:
-            shard = site.shards[0]
-            shard.end(signal.SIGKILL)
-            shard.settings["BLOBD_DATA"] = data
-            shard.start()
-            layers = [images.layer_of(f"file{at}", random.Random(at).randbytes(MIB)) for at in range(3)]
-            at, login = os.path.dirname(site.certificates), ":".join(LOGIN)
-            there = f"docker://{site.haproxy.tls}/lib/app:"
-            blobs = {}
-            for name, parts in ("one", layers[:2]), ("two", layers[1:]):
-                place = os.path.join(site.folder, name)
-                blobs[name] = set(images.write_layout(place, parts, name, is_packed=True))
-                pushes = "copy", "--dest-cert-dir", at, "--dest-creds", login, f"oci:{name}:{name}", there + name
-                ran = skopeo(site, *pushes)
-                check(f"a push of {name}", ran[0] == 0, ran)
-            ran = skopeo(site, "delete", "--cert-dir", at, "--creds", login, f"{there}two")
-            check("one is deleted", ran[0] == 0, ran)
-            lines, told = compacted_by_the_list(shard, redis, data)
-            equal("what is referred to", set(lines.splitlines()), {f"lib/app {digest}" for digest in blobs["one"]})
-            check("it says what went", "repositories gave up" in told, told)
-            site.haproxy.reload()
-            client = site.local()
-            found = {
-                digest: client.ask("HEAD", f"/v2/lib/app/blobs/{digest}").status
-                for digest in blobs["one"] | blobs["two"]
-            }
-            equal("what is there", found, {digest: 200 if digest in blobs["one"] else 404 for digest in found})
-            pulls = "copy", "--src-cert-dir", at, "--src-creds", login, f"{there}one", "oci:back:one"
-            for what, words in ("a pull of the other", pulls), ("a push of what went", pushes):
-                ran = skopeo(site, *words)
-                check(what, ran[0] == 0, ran)
-            is_whole = blobs_in(os.path.join(site.folder, "back")) == blobs_in(os.path.join(site.folder, "one"))
-            check("the other is whole", is_whole)
+    with site_with_redis(folder) as (redis, site):
+        shard = site.shards[0]
+        restart(shard, BLOBD_DATA=data)
+        layers = [images.layer_of(f"file{at}", random.Random(at).randbytes(MIB)) for at in range(3)]
+        at, login = os.path.dirname(site.certificates), ":".join(LOGIN)
+        there = f"docker://{site.haproxy.tls}/lib/app:"
+        blobs = {}
+        for name, parts in ("one", layers[:2]), ("two", layers[1:]):
+            place = os.path.join(site.folder, name)
+            blobs[name] = set(images.write_layout(place, parts, name, is_packed=True))
+            pushes = "copy", "--dest-cert-dir", at, "--dest-creds", login, f"oci:{name}:{name}", there + name
+            ran = skopeo(site, *pushes)
+            check(f"a push of {name}", ran[0] == 0, ran)
+        ran = skopeo(site, "delete", "--cert-dir", at, "--creds", login, f"{there}two")
+        check("one is deleted", ran[0] == 0, ran)
+        lines, told = compacted_by_the_list(shard, redis, data)
+        equal("what is referred to", set(lines), {f"lib/app {digest}" for digest in blobs["one"]})
+        check("it says what went", "repositories gave up" in told, told)
+        site.haproxy.reload()
+        client = site.local()
+        found = {
+            digest: client.ask("HEAD", f"/v2/lib/app/blobs/{digest}").status
+            for digest in blobs["one"] | blobs["two"]
+        }
+        equal("what is there", found, {digest: 200 if digest in blobs["one"] else 404 for digest in found})
+        pulls = "copy", "--src-cert-dir", at, "--src-creds", login, f"{there}one", "oci:back:one"
+        for what, words in ("a pull of the other", pulls), ("a push of what went", pushes):
+            ran = skopeo(site, *words)
+            check(what, ran[0] == 0, ran)
+        is_whole = blobs_in(os.path.join(site.folder, "back")) == blobs_in(os.path.join(site.folder, "one"))
+        check("the other is whole", is_whole)
 
 
 @case(*PROXY, "skopeo", "docker")

@@ -7,14 +7,13 @@ request waits for long.
 Lua 5.3 hashes all bytes of a text of up to 31 bytes, by a secret, and of a longer one every second, every third and so
 on. Redis's Lua 5.1 hashes all bytes, without a secret.
 """
-import contextlib
 import itertools
 import json
 import os
 import random
 import time
 
-from harness.registry import PROXY, Client, Repository, Site, descriptor, manifest_of
+from harness.registry import PASSWORD, PROXY, Client, Repository, Site, descriptor, manifest_of, site_with_redis
 from harness.running import MIB, Repeated, finished
 from harness.suite import case, check, equal, main
 from harness.wire import sha256
@@ -226,18 +225,11 @@ def texts_collide_in_memory():
         names_and_tags_that_collide(site, 200)
 
 
-@contextlib.contextmanager
-def site_with_redis(folder):
-    with servers.Redis(folder, "secret") as redis:
-        with Site(more={"FRONT_REDIS": redis.address, "FRONT_REDIS_PASSWORD": "secret"}) as site:
-            yield redis, site
-
-
 def seconds_for_tags_to_go(redis, site, tags):
     """How long it takes to delete a manifest that has these tags. They are written as manifests_in_redis.lua does,
     since they are more than a test can put."""
     repository, manifest = Repository(site, "lib/texts"), manifest_of(CONFIG)
-    kept = referenced.Redis(redis.address, "secret")
+    kept = referenced.Redis(redis.address, PASSWORD)
     equal("a manifest", repository.put("one", manifest)[0], 201)
     for first in range(0, len(tags), 1000):
         part = tags[first : first + 1000]

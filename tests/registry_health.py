@@ -1,16 +1,24 @@
 #!/usr/bin/env python3
-"""What the registry says of itself: its parts in /health, the log and the metrics, if a shard is full or Redis fails.
+"""What the registry says of itself: its parts in /health, the log and the metrics, if a shard is full or Redis fails;
+and the numbers of its data directories.
 
     registry_health.py PROGRAM
 """
 import contextlib
+import os
+import re
+import shlex
+import shutil
 import signal
 import socket
+import sys
 
+from harness import TOP
+from harness.data import FILLED, SECTOR, changed, content_of, filled, gates_of
 from harness.listeners import Listener
-from harness.registry import IMAGE_PUSHED, MIB, PROXY, Client, Site, is_refused, push_image, servers
-from harness.running import becomes, told_by
-from harness.suite import case, check, equal, main
+from harness.registry import IMAGE_PUSHED, LOGIN, MIB, PROXY, Client, Site, is_refused, push_image, servers
+from harness.running import becomes, finished, told_by
+from harness.suite import OPTIONS, case, check, equal, main
 from harness.wire import sha256
 
 UPLOADS = "/v2/lib/a/blobs/uploads/"
@@ -52,7 +60,7 @@ def a_full_shard_is_told(folder):
         with contextlib.suppress(ConnectionError):
             client.send(bytes(8 * MIB))
         is_refused("a chunk", client.reply("PATCH"), 503, "UNAVAILABLE", "is full")
-        equal("it is full", health(proxy), (503, ["shard1: full", "manifests: well"]))
+        equal("it is full, and not down", health(proxy), (200, ["shard1: full", "manifests: well"]))
         check("the log has it", becomes(True, lambda: " 503 " in text_of(proxy.log)), text_of(proxy.log))
         for what in (
             'backend_http_responses_total{proxy="shards"',
@@ -79,8 +87,8 @@ def uploads_that_were_left_are_told(folder):
     with Listener(refuse) as shard, servers.HAProxy(folder, [shard.addr], more=TOLD) as proxy:
         told = Client(proxy.local).ask("POST", UPLOADS)
         is_refused("an opening", told, 429, "TOOMANYREQUESTS", "its client left")
-        equal("its table is full", health(proxy), (503, ["shard1: full of open uploads", "manifests: well"]))
-        check("for a while", becomes(200, lambda: health(proxy)[0]), health(proxy))
+        equal("its table is full", health(proxy), (200, ["shard1: full of open uploads", "manifests: well"]))
+        check("for a while", becomes("shard1: well", lambda: health(proxy)[1][0]), health(proxy))
 
 
 def vanish(connection):
@@ -110,8 +118,9 @@ def a_body_that_found_no_room_is_told(folder):
             with contextlib.suppress(ConnectionError):
                 client.send(bytes(size))
             is_refused(f"a {method} of {size} bytes", client.reply(method), 503, "UNAVAILABLE", "had no memory")
-            equal(f"what is said behind a {method} of {size} bytes", health(proxy)[1][0], f"shard1: {state}")
-        check("for a while", becomes(200, lambda: health(proxy)[0]), health(proxy))
+            told = 200, [f"shard1: {state}", "manifests: well"]
+            equal(f"what is said behind a {method} of {size} bytes", health(proxy), told)
+        check("for a while", becomes("shard1: well", lambda: health(proxy)[1][0]), health(proxy))
 
 
 @case(*PROXY)
@@ -160,7 +169,7 @@ def redis_is_named(folder):
             told_by([*words, "config", "set", "maxmemory", "1"])
             equal("no manifest is taken", push_image(site.client(), "lib/a"), (IMAGE_PUSHED[0], 503))
             status, lines = health(site.haproxy)
-            check("the failure is told", status == 503 and "redis: failed within" in lines[1], lines)
+            check("the failure is told", status == 200 and "redis: failed within" in lines[1], lines)
             check("by Redis's words", "OOM" in lines[1], lines)
             check("for a while", becomes(well, lambda: health(site.haproxy)), health(site.haproxy))
 
@@ -186,7 +195,113 @@ def full_manifests_are_told():
     with Site(more=TOLD | {"FRONT_HELD": "0"}) as site:
         equal("there is no room for a manifest", push_image(site.client(), "lib/a"), (IMAGE_PUSHED[0], 503))
         status, lines = health(site.haproxy)
-        check("it is told", status == 503 and "FRONT_HELD" in lines[1], lines)
+        check("it is told", status == 200 and "FRONT_HELD" in lines[1], lines)
+
+
+@case(*PROXY)
+def the_log_has_the_login():
+    """The one that was asked for, and no other: not a wrong one, nor one that nobody looked at."""
+    wrong = LOGIN[0], "wrong"
+    with Site(users={"bob": "builder"}) as site:
+        askers = [site.client(), site.client(("bob", "builder")), site.client(wrong), site.local()]
+        askers.append(Client(site.haproxy.local, wrong))
+        statuses = [client.ask("GET", f"/v2/{at}").status for at, client in enumerate(askers)]
+        equal("who may ask", [status == 401 for status in statuses], [False, False, True, False, False])
+
+        def logins():
+            found = re.findall(r" \{(.*?)\} \"GET \S*/v2/(\d) ", text_of(site.haproxy.log))
+            return {int(at): login for login, at in found}
+
+        wanted = {0: "alice", 1: "bob", 2: "", 3: "", 4: ""}
+        check("who asked", becomes(wanted, logins), (logins(), text_of(site.haproxy.log)))
+
+
+def numbers_of(text):
+    """The numbers in a text of Prometheus', by their names and directories, if each has its kind and its meaning."""
+    lines = text.splitlines()
+    found = re.findall(r'^(\w+)\{dir="((?:[^"\\]|\\.)*)"\} (\d+)$', text, re.MULTILINE)
+    equal("each line is read", len(found), sum(not line.startswith("#") for line in lines))
+    for kind in ("HELP", "TYPE"):
+        told = {line.split()[2] for line in lines if line.startswith(f"# {kind} ")}
+        equal(f"each has its {kind}", {name for name, *_ in found} - told, set())
+    return {(name, re.sub(r"\\(.)", r"\1", path)): int(value) for name, path, value in found}
+
+
+def with_blobd(folder):
+    """The variables with which the program is on the path as blobd."""
+    os.symlink(OPTIONS.program, os.path.join(folder, "blobd"))
+    return {"PATH": folder + os.pathsep + os.environ["PATH"]}
+
+
+WHOLE = {
+    "readable": 1, "blobs": len(FILLED), "stored_bytes": sum(map(len, FILLED)), "uploads_open": 1, "received_bytes": 7,
+    "records_unread": 0, "records_missing": 0,
+}
+
+
+@case()
+def directories_have_numbers(folder):
+    """By `deploy/metrics.py`: of one that is whole, one that is damaged, one that was cut and has an odd name, and
+    none."""
+    paths = whole, damaged, cut, none = [os.path.join(folder, name) for name in ("whole", "damaged", 'a"\\b', "none")]
+    filled(whole)
+    shutil.copytree(whole, damaged)
+    changed(f"{damaged}/journal", b"two", b"twp")
+    shutil.copytree(whole, cut)
+    os.truncate(f"{cut}/journal", gates_of(content_of(f"{cut}/journal"))[-1] + SECTOR + 1)
+    words, settings = [sys.executable, os.path.join(TOP, "deploy", "metrics.py")], with_blobd(folder)
+    ran = finished([*words, *paths], env=settings)
+    equal("one can't be read", (ran.returncode, none in ran.stderr), (1, True))
+    numbers, disk = numbers_of(ran.stdout), os.statvfs(folder)
+    for path in paths[:3]:
+        left = numbers.pop(("blobd_disk_left_bytes", path))
+        check("the disk", abs(left - disk.f_bavail * disk.f_frsize) < 1 << 30, left)
+    lacks_two = {"blobs": 2, "stored_bytes": WHOLE["stored_bytes"] - len(b"two"), "records_unread": 1}
+    lacks_the_chunk = {"received_bytes": 0, "records_missing": 1}
+    of_all = {whole: WHOLE, damaged: WHOLE | lacks_two, cut: WHOLE | lacks_the_chunk, none: {"readable": 0}}
+    wanted = {(f"blobd_{name}", path): value for path, of_one in of_all.items() for name, value in of_one.items()}
+    equal("the numbers", numbers, wanted)
+    equal("all can be read", finished([*words, whole], env=settings).returncode, 0)
+
+
+@case()
+def the_collector_is_given_numbers(folder):
+    """By the line of the unit: the file is replaced whole, and the unit fails if a directory can't be read."""
+    unit = text_of(os.path.join(TOP, "deploy", "blobd-metrics.service"))
+    (line,) = re.findall(r"^ExecStart=(.*)$", unit, re.MULTILINE)
+    places = {"/usr/local/lib/blobd": os.path.join(TOP, "deploy"), "/var/lib/blobd": os.path.join(folder, "blobd-data")}
+    for there, here in places.items():
+        line = line.replace(there, here)
+    words, settings, path = shlex.split(line.replace("$$", "$")), with_blobd(folder), os.path.join(folder, "blobd.prom")
+    for number, status in ((1, 1), (1, 0), (2, 0)):
+        if status == 0:
+            os.makedirs(os.path.join(folder, "blobd-data", str(number)))
+            filled(os.path.join(folder, "blobd-data", str(number), "data"))
+        ran = finished(words, cwd=folder, env=settings)
+        equal(f"how it ends, {number}", ran.returncode, status)
+        numbers = numbers_of(text_of(path))
+        told = [value for (name, _), value in numbers.items() if name == "blobd_readable"]
+        equal(f"the directories, {number}", told, [1] * number if status == 0 else [0])
+    equal("nothing is left", sorted(os.listdir(folder)), ["blobd", "blobd-data", "blobd.prom"])
+
+
+@case(*PROXY)
+def alerts_are_about_what_there_is(folder):
+    """Each number that an alert of docs/OPERATIONS.md is about, with the labels that it has."""
+    page = text_of(os.path.join(TOP, "docs", "OPERATIONS.md"))
+    alerts = page.split("### Alerts\n")[1].split("\n## ")[0]
+    named = re.findall(r"\b((?:blobd|haproxy)_\w+)(?:\{(.*?)\})?", alerts)
+    check("there are alerts", len(named) >= 6, named)
+    filled(os.path.join(folder, "data"))
+    words = [sys.executable, os.path.join(TOP, "deploy", "metrics.py"), os.path.join(folder, "data")]
+    lines = finished(words, env=with_blobd(folder)).stdout.splitlines()
+    with Site(2) as site:
+        lines += Client(site.haproxy.status).ask("GET", "/metrics").body.decode().splitlines()
+    for name, labels in named:
+        of_it = [line for line in lines if line.startswith(f"{name}{{")]
+        labels = set(labels.split(",")) - {""}
+        is_there = any(labels <= set(re.findall(r'\w+="[^"]*"', line)) for line in of_it)
+        check(f"{name} with {labels}", is_there, of_it)
 
 
 if __name__ == "__main__":

@@ -10,27 +10,33 @@ import functools
 import http.client
 import itertools
 import json
-import os
 import random
 import re
 import signal
-import sys
 
-from harness import TOP
-from harness.registry import KIB, PROXY, Repository, Site, descriptor, is_refused, manifest_of, refusal_of
-from harness.running import MIB, Repeated, becomes, finished
+from harness.registry import (
+    KIB,
+    PASSWORD,
+    PROXY,
+    Repository,
+    Site,
+    descriptor,
+    index_of,
+    is_refused,
+    manifest_of,
+    referenced_by,
+    refusal_of,
+    restart,
+    site_with_redis,
+)
+from harness.running import MIB, Repeated, becomes
 from harness.suite import case, check, equal, main
 from harness.wire import is_silent, sha256, sha512
 import images
 import referenced
-import servers
 
 INDEX_TYPE = "application/vnd.oci.image.index.v1+json"
 INVALID, UNKNOWN = (400, "MANIFEST_INVALID"), (404, "MANIFEST_BLOB_UNKNOWN")
-
-
-def index_of(*manifests, **more):
-    return json.dumps({"schemaVersion": 2, **more, "manifests": [descriptor(one) for one in manifests]}).encode()
 
 
 def annotated(manifest, text):
@@ -355,11 +361,6 @@ class Puts(Repeated):
         check("more manifests are taken", becomes(True, lambda: len(self.kept) > before + 5), (before, len(self.kept)))
 
 
-def restart(service, by):
-    service.end(by)
-    service.start()
-
-
 def wait_for_redis(repository):
     """Redis listens before it has read its files."""
     check("Redis answers again", becomes(True, lambda: repository.tags()[0] != 503))
@@ -379,45 +380,37 @@ def all_tags(repository):
 def manifests_outlive_haproxy(folder):
     """With Redis: reloads, restarts and kills of HAProxy and of Redis in the middle of pushes lose nothing that was
     answered 201."""
-    with servers.Redis(folder, "secret") as redis:
-        with Site(more={"FRONT_REDIS": redis.address, "FRONT_REDIS_PASSWORD": "secret"}) as site:
-            all_of_manifests(site)
-            Repository(site, "lib/durable").push(b"{}", b"layer")
-            puts = Puts(site, 4)
-            for change in (
-                site.haproxy.reload,
-                site.haproxy.reload,
-                lambda: restart(site.haproxy, signal.SIGTERM),
-                lambda: restart(site.haproxy, signal.SIGKILL),
-                lambda: restart(redis, signal.SIGKILL),
-                lambda: restart(redis, signal.SIGTERM),
-            ):
-                puts.go_on()
-                change()
+    with site_with_redis(folder) as (redis, site):
+        all_of_manifests(site)
+        Repository(site, "lib/durable").push(b"{}", b"layer")
+        puts = Puts(site, 4)
+        for change in (
+            site.haproxy.reload,
+            site.haproxy.reload,
+            lambda: restart(site.haproxy, signal.SIGTERM),
+            lambda: restart(site.haproxy, signal.SIGKILL),
+            lambda: restart(redis, signal.SIGKILL),
+            lambda: restart(redis, signal.SIGTERM),
+        ):
             puts.go_on()
-            puts.end()
-            durable = Repository(site, "lib/durable")
-            wait_for_redis(durable)
-            lost = [tag for tag, body in puts.kept if durable.get(tag) != body]
-            check("none is lost", not lost, lost)
-            check("nor its tag", {tag for tag, _ in puts.kept} <= all_tags(durable))
-            check("nor the repository", b'"lib/durable"' in durable.client.ask("GET", "/v2/_catalog").body)
-            redis.end()
-            heard = durable.client.ask("GET", f"{durable.home}/tags/list")
-            is_refused("without Redis", heard, 503, "UNAVAILABLE", "manifests")
-            redis.start()
-            restart(site.shards[0], signal.SIGKILL)
-            wait_for_redis(durable)
-            tag, _ = puts.kept[0]
-            gone = durable.get(tag)
-            check("a manifest whose blobs are gone goes", gone == 404 and tag not in all_tags(durable), gone)
-
-
-def listed_by(redis):
-    """The status of the script that lists what manifests refer to, the lines, and what it says beside them."""
-    words = [sys.executable, os.path.join(TOP, "deploy", "referenced.py"), redis.address]
-    ran = finished(words, env={"FRONT_REDIS_PASSWORD": "secret"})
-    return ran.returncode, set(ran.stdout.splitlines()), ran.stderr.splitlines()
+            change()
+        puts.go_on()
+        puts.end()
+        durable = Repository(site, "lib/durable")
+        wait_for_redis(durable)
+        lost = [tag for tag, body in puts.kept if durable.get(tag) != body]
+        check("none is lost", not lost, lost)
+        check("nor its tag", {tag for tag, _ in puts.kept} <= all_tags(durable))
+        check("nor the repository", b'"lib/durable"' in durable.client.ask("GET", "/v2/_catalog").body)
+        redis.end()
+        heard = durable.client.ask("GET", f"{durable.home}/tags/list")
+        is_refused("without Redis", heard, 503, "UNAVAILABLE", "manifests")
+        redis.start()
+        restart(site.shards[0], signal.SIGKILL)
+        wait_for_redis(durable)
+        tag, _ = puts.kept[0]
+        gone = durable.get(tag)
+        check("a manifest whose blobs are gone goes", gone == 404 and tag not in all_tags(durable), gone)
 
 
 def damaged(body, chance):
@@ -433,23 +426,22 @@ def every_manifest_is_read(folder):
     """Whatever manifests are taken, what they refer to can be listed; and a manifest that can't be read, however it
     came to be there, is named, ends no list, and loses no blob."""
     chance = random.Random(7)
-    with servers.Redis(folder, "secret") as redis:
-        with Site(more={"FRONT_REDIS": redis.address, "FRONT_REDIS_PASSWORD": "secret"}) as site:
-            only_json_is_taken(site, 400)
-            equal("all are read", listed_by(redis), (0, {f"lib/json {sha256(b'{}')}"}, []))
-            kept, store = Repository(site, "lib/damaged"), referenced.Redis(redis.address, "secret")
-            kept.push(b"{}", b"first", b"second")
-            bodies = {sha256(body): body for body in (manifest_of(b"{}", one) for one in (b"first", b"second"))}
-            equal("two manifests", [kept.put(digest, body)[0] for digest, body in bodies.items()], [201, 201])
-            whole = listed_by(redis)
-            for turn in range(20):
-                digest, body = chance.choice(list(bodies.items()))
-                store.ask("SET", f"body:lib/damaged@{digest}", damaged(body, chance))
-                status, lines, told = listed_by(redis)
-                equal(f"what is listed, turn {turn}", (status, lines), whole[:2])
-                are_named = len(told) == 1 and f"lib/damaged@{digest}" in told[0]
-                check(f"it is named, turn {turn}", are_named, told)
-                store.ask("SET", f"body:lib/damaged@{digest}", body)
+    with site_with_redis(folder) as (redis, site):
+        only_json_is_taken(site, 400)
+        equal("all are read", referenced_by(redis), (0, [f"lib/json {sha256(b'{}')}"], []))
+        kept, store = Repository(site, "lib/damaged"), referenced.Redis(redis.address, PASSWORD)
+        kept.push(b"{}", b"first", b"second")
+        bodies = {sha256(body): body for body in (manifest_of(b"{}", one) for one in (b"first", b"second"))}
+        equal("two manifests", [kept.put(digest, body)[0] for digest, body in bodies.items()], [201, 201])
+        whole = referenced_by(redis)
+        for turn in range(20):
+            digest, body = chance.choice(list(bodies.items()))
+            store.ask("SET", f"body:lib/damaged@{digest}", damaged(body, chance))
+            status, lines, told = referenced_by(redis)
+            equal(f"what is listed, turn {turn}", (status, lines), whole[:2])
+            are_named = len(told) == 1 and f"lib/damaged@{digest}" in told[0]
+            check(f"it is named, turn {turn}", are_named, told)
+            store.ask("SET", f"body:lib/damaged@{digest}", body)
 
 
 if __name__ == "__main__":

@@ -6,14 +6,11 @@ that are pushed before their image.
 """
 import json
 import os
-import re
 
-from harness import TOP
 from harness.registry import LOGIN, PROXY, Client, Site, images, servers, skopeo
-from harness.running import finished, run
+from harness.running import finished, page_lines, run
 from harness.suite import case, check, equal, main
 
-MOVED = re.compile(r"<!-- tests/registry_moves\.py runs these lines.*?-->\n```sh\n(.*?)```", re.DOTALL)
 # one name without a folder, and two tags of one name
 IMAGES = [("plain", "one"), ("team/app", "one"), ("team/app", "two"), ("team/deep/app", "one")]
 
@@ -39,9 +36,6 @@ def found_in(client):
 @case(*PROXY, "skopeo", "docker-registry")
 def images_are_moved_in_and_back(folder):
     """In from one docker-registry, and back into another one, so that nothing was there before."""
-    with open(os.path.join(TOP, "docs", "OPERATIONS.md"), encoding="utf-8") as file:
-        lines = MOVED.findall(file.read())
-    equal("there and back", len(lines), 2)
     folders = [os.path.join(folder, name) for name in ("first", "second")]
     for path in folders:
         os.mkdir(path)
@@ -52,9 +46,8 @@ def images_are_moved_in_and_back(folder):
             ran = skopeo(site, "copy", "--dest-tls-verify=false", f"oci:{place}:one", to)
             check(f"{name}:{tag} is made", ran[0] == 0, ran)
         there = {"NEW": site.haproxy.tls, "CA": os.path.dirname(site.certificates), "PASSWORD": LOGIN[1]}
-        for text, old in zip(lines, (first, second)):
-            for word, value in ({"OLD": old.address} | there).items():
-                text = re.sub(rf"\b{word}\b", value, text)
+        for at, old in enumerate((first, second)):
+            text = page_lines("registry_moves", there | {"OLD": old.address})[at]
             settings = os.environ | {"REGISTRY_AUTH_FILE": f"{site.folder}/auth.json"}
             ran = finished(["sh", "-eu", "-c", text], env=settings)
             check("the lines run", ran.returncode == 0, ran.stderr)

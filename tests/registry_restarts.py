@@ -3,19 +3,13 @@
 
     registry_restarts.py PROGRAM
 """
-import contextlib
 import json
 import signal
 
-from harness.registry import IMAGE_PUSHED, PROXY, Repository, Site, manifest_of, push_image, servers
+from harness.registry import IMAGE_PUSHED, PROXY, Repository, Site, manifest_of, push_image, restart, site_with_redis
 from harness.suite import case, check, equal, main
 
 LOST = "push it again"
-
-
-def restart(service):
-    service.end(signal.SIGKILL)
-    service.start()
 
 
 def catalog(site, query=""):
@@ -25,14 +19,6 @@ def catalog(site, query=""):
 
 def message_of(heard):
     return heard.status, json.loads(heard.body)["errors"][0]["message"]
-
-
-@contextlib.contextmanager
-def site_with_redis(folder, shards):
-    with servers.Redis(folder, "secret") as redis:
-        settings = {"FRONT_REDIS": redis.address, "FRONT_REDIS_PASSWORD": "secret"}
-        with Site(shards, more=settings) as site:
-            yield site
 
 
 def lists_ask_first(site):
@@ -99,7 +85,7 @@ def lists_ask_first_in_memory():
 
 @case(*PROXY, "redis-server")
 def lists_ask_first_in_redis(folder):
-    with site_with_redis(folder, 2) as site:
+    with site_with_redis(folder, 2) as (_, site):
         lists_ask_first(site)
         tags_ask_first(site)
         pages_of_lost_names(site)

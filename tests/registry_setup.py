@@ -5,6 +5,7 @@ docs/OPERATIONS.md.
     registry_setup.py PROGRAM
 """
 import contextlib
+import fcntl
 import json
 import os
 import shlex
@@ -16,7 +17,7 @@ import sys
 
 from harness import TOP
 from harness.registry import IMAGE_PUSHED, LOGIN, PROXY, Client, push_image
-from harness.running import finished, has_ipv6, told_by
+from harness.running import finished, has_ipv6, page_lines, told_by
 from harness.suite import OPTIONS, case, check, equal, lacks, main, skip
 from harness.wire import PATIENCE, sha256
 import servers
@@ -50,11 +51,12 @@ def settings_are_valid(folder):
 
 
 @case("systemd-analyze")
-def unit_is_valid(folder):
-    unit = text_of(os.path.join(TOP, "deploy", "blobd@.service"))
-    path = os.path.join(folder, "blobd@.service")
-    written(path, unit.replace("/usr/local/bin/blobd", OPTIONS.program))
-    ran = finished(["systemd-analyze", "verify", "--man=no", path])
+def units_are_valid(folder):
+    paths = [os.path.join(folder, name) for name in ("blobd@.service", "blobd-metrics.service", "blobd-metrics.timer")]
+    for path in paths:
+        unit = text_of(os.path.join(TOP, "deploy", os.path.basename(path)))
+        written(path, unit.replace("/usr/local/bin/blobd", OPTIONS.program))
+    ran = finished(["systemd-analyze", "verify", "--man=no", *paths])
     check("systemd-analyze verify", ran.returncode == 0 and not ran.stderr, ran.stderr)
 
 
@@ -71,14 +73,17 @@ def unit_waits_behind_a_fault(folder):
 
 
 @contextlib.contextmanager
-def newcomers_registry(tls, store, *words):
-    """`make registry` at these addresses, and the lines that it prints once it serves."""
-    words = [sys.executable, os.path.join(TOP, "deploy", "registry.py"), OPTIONS.program, *words]
-    settings = os.environ | {"FRONT_TLS": tls, "BLOBD_1": store}
+def newcomers_registry(tls, store, *words, program=None, local=None, heard=lambda line: None):
+    """`make registry` at these addresses, and the lines that it prints once it serves. `heard` is told each line. If
+    the local address is empty, the registry chooses it."""
+    words = [sys.executable, os.path.join(TOP, "deploy", "registry.py"), program or OPTIONS.program, *words]
+    local = servers.free_address() if local is None else local
+    settings = os.environ | {"FRONT_TLS": tls, "BLOBD_1": store, "FRONT_LOCAL": local}
     with subprocess.Popen(words, env=settings, stdout=subprocess.PIPE, stderr=subprocess.STDOUT, text=True) as registry:
         lines = []
         for line in registry.stdout:
             lines.append(line.strip())
+            heard(lines[-1])
             if line.startswith("Docker"):
                 break
         try:
@@ -93,6 +98,18 @@ def told_lines(lines):
     are_told = [line.split()[1] for line in told[:3]] == ["login", "copy", "copy"] and len(told) == 4
     check("four lines are told", are_told, lines)
     return told
+
+
+def local_of(lines):
+    """The local address that a registry tells."""
+    (address,) = [line.split("http://")[1].split(",")[0] for line in lines if "without a login" in line]
+    return address
+
+
+def blobd_of(lines):
+    """The number of its blobd's process that it tells."""
+    (number,) = [line.split()[4].removesuffix(":") for line in lines if line.startswith("Its blobd is process ")]
+    return int(number)
 
 
 def login_of(told):
@@ -112,9 +129,7 @@ def the_newcomers_registry():
         client = Client(tls, (user, word), os.path.join(folder, "front.crt"))
         equal("the registry answers", client.ask("GET", "/v2/").status, 200)
         equal("and takes an image", push_image(client, "lib/new"), IMAGE_PUSHED)
-        local = [line.split("http://")[1].split(",")[0] for line in lines if "without a login" in line]
-        statuses = [Client(address).ask("GET", "/v2/").status for address in local]
-        check("its local address asks for no login", statuses == [200], lines)
+        equal("its local address asks for no login", Client(local_of(lines)).ask("GET", "/v2/").status, 200)
         told_of = [line.split("http://")[1].removesuffix("/health") for line in lines if line.endswith("/health")]
         equal("its health is told", [Client(address).ask("GET", "/health").status for address in told_of], [200])
         if not lacks("the registry's lines", "skopeo"):
@@ -181,30 +196,38 @@ def a_service_that_cannot_start(folder):
             check("it printed the cause", len(printed) == 2, printed)
 
 
+# those at which a registry's local address is looked for first
+FIRST_PORTS = 5_081, 5_082
+
+
+@contextlib.contextmanager
+def first_ports_taken():
+    """Has somebody listen at the first local ports of a registry."""
+    with contextlib.ExitStack() as stack:
+        for port in FIRST_PORTS:
+            # else another program does
+            with contextlib.suppress(OSError):
+                stack.enter_context(socket.create_server(("127.0.0.1", port)))
+        yield
+
+
 def family(number):
     """A process, and all that it has started."""
     with open(f"/proc/{number}/task/{number}/children", encoding="ascii") as file:
         return [number, *(one for child in file.read().split() for one in family(child))]
 
 
-def program_of(number, name):
-    """The process of this program's that another one has started."""
-    for one in family(number):
-        with open(f"/proc/{one}/cmdline", encoding="utf-8") as file:
-            if os.path.basename(file.read().split("\0")[0]).startswith(name):
-                return int(one)
-    return None
-
-
 @case(*PROXY, "redis-server")
 def a_registry_that_keeps(folder):
     """`make registry DATA=..`: all of it is killed at once, then `blobd` alone, and the third is interrupted. Each time
-    the next one has the image, its tag and the login."""
+    the next one has the image, its tag and the login, at the same addresses."""
     path, tls, store = os.path.join(folder, "kept"), servers.free_address(), servers.free_address()
     settings = {"REGISTRY_AUTH_FILE": os.path.join(folder, "auth.json")}
     has_skopeo = not lacks("the lines of a registry that keeps", "skopeo")
-    with newcomers_registry(tls, store, path) as (registry, lines):
-        told = told_lines(lines)
+    with first_ports_taken(), newcomers_registry(tls, store, path, local="") as (registry, lines):
+        told, local = told_lines(lines), local_of(lines)
+        check("its local port is the next one", FIRST_PORTS[-1] < servers.place(local)[1] < 5_443, local)
+        equal("nobody else has it", Client(local).ask("GET", "/v2/").status, 200)
         certificates, user, word = login_of(told)
         client = Client(tls, (user, word), os.path.join(certificates, "front.crt"))
         equal("it takes an image", push_image(client, "lib/kept"), IMAGE_PUSHED)
@@ -218,8 +241,8 @@ def a_registry_that_keeps(folder):
                 os.kill(int(number), signal.SIGKILL)
     equal("whose it is", os.stat(path).st_mode & 0o777, 0o700)
     for number, end in enumerate((signal.SIGKILL, signal.SIGINT)):
-        with newcomers_registry(tls, store, path) as (registry, lines):
-            equal("the same lines are told", told_lines(lines), told)
+        with newcomers_registry(tls, store, path, local="") as (registry, lines):
+            equal("the same lines are told", (told_lines(lines), local_of(lines)), (told, local))
             client = Client(tls, (user, word), os.path.join(certificates, "front.crt"))
             again = client.ask("GET", "/v2/lib/kept/manifests/one")
             equal(f"the manifest by its tag, start {number}", (again.status, again.body), (200, manifest))
@@ -229,11 +252,54 @@ def a_registry_that_keeps(folder):
                 ran = told_by(["sh", "-c", line], env=settings)
                 check(f"start {number}: {line}", ran[0] == 0, ran)
             is_killed = end == signal.SIGKILL
-            os.kill(program_of(registry.pid, "blobd") if is_killed else registry.pid, end)
+            os.kill(blobd_of(lines) if is_killed else registry.pid, end)
             rest = registry.stdout.read().strip()
             ended = registry.wait(timeout=PATIENCE), rest.split(",")[0]
             wanted = (1, "blobd ended: it was killed by SIGKILL") if is_killed else (0, "ended")
             equal("it says how it ended", ended, wanted)
+    check("README kills that process alone", "\nkill -9 PID " in text_of(os.path.join(TOP, "README.md")))
+    with socket.create_server(servers.place(local)):
+        ran = made_registry(tls, store, f"PROGRAM={OPTIONS.program}", f"DATA={path}")
+        line = ran.stderr.splitlines()[0]
+        wanted = f"can't listen at {local}: another program has it "
+        check("its local address is taken", line.startswith(wanted) and "FRONT_LOCAL=" in line, line)
+
+
+@contextlib.contextmanager
+def locked(path):
+    """Has a data directory for a server, as one that was killed may for a while."""
+    folder = os.open(path, os.O_RDONLY | os.O_DIRECTORY)
+    fcntl.flock(folder, fcntl.LOCK_EX)
+    try:
+        yield
+    finally:
+        os.close(folder)
+
+
+@case(*PROXY, "redis-server")
+def a_registry_that_waits(folder):
+    """Right after a kill another server may still have the data directory, and `blobd` may take long to start: what is
+    waited for is told."""
+    path, tls, store = os.path.join(folder, "kept"), servers.free_address(), servers.free_address()
+    data, slow, go = (os.path.join(path, name) for name in ("data", "blobd-slow", "go"))
+    os.makedirs(data)
+    written(slow, f'#!/bin/sh\nuntil test -e "{go}"; do sleep 0.1; done\nexec "{OPTIONS.program}" "$@"\n', 0o755)
+    waits = f"waits for the server that has {data}", f"waits for blobd, which reads all of {data} first (0 MiB)"
+    with locked(data):
+        ran = made_registry(tls, store, f"PROGRAM={OPTIONS.program}", f"DATA={path}")
+        refused = f"can't use {data}: another server has it (fuser {data} shows which)"
+        equal("one that has it for long", (ran.returncode, ran.stderr.splitlines()[:2]), (2, [waits[0], refused]))
+    with contextlib.ExitStack() as stack:
+        stack.enter_context(locked(data))
+        ends = {waits[0]: stack.close, waits[1]: lambda: written(go, "")}
+
+        def hear(line):
+            if line in ends:
+                ends[line]()
+
+        with newcomers_registry(tls, store, path, program=slow, heard=hear) as (_, lines):
+            equal("what is waited for", tuple(lines[:2]), waits)
+            told_lines(lines)
 
 
 @case(*PROXY, "redis-server")
@@ -243,7 +309,7 @@ def a_registry_beside_another(folder):
     tls, store = servers.free_address(), servers.free_address()
     path, rest = os.path.join(folder, "kept"), os.path.join(folder, "rest")
     os.mkdir(rest)
-    with newcomers_registry(tls, store) as (registry, _):
+    with newcomers_registry(tls, store) as (_, lines):
         words = [f"PROGRAM={OPTIONS.program}", f"DATA={path}"]
         ran = made_registry(tls, store, *words, env={"TMPDIR": rest})
         wanted = [
@@ -253,13 +319,11 @@ def a_registry_beside_another(folder):
         ]
         equal("its lines", (ran.returncode, ran.stdout, ran.stderr.splitlines()[:2]), (2, "", wanted))
         equal("what is left", (os.path.exists(path), os.listdir(rest)), (False, []))
-        os.kill(program_of(registry.pid, "blobd"), signal.SIGKILL)
+        os.kill(blobd_of(lines), signal.SIGKILL)
         with newcomers_registry(tls, store) as (_, lines):
             told_lines(lines)
 
 
-# Before the lines that set all up in docs/OPERATIONS.md.
-SET_UP = "<!-- tests/registry_setup.py runs these lines -->\n```sh\n"
 # A root of its own, which goes with the process: what is written goes to a file system in memory. ROOT, TOP, WORK: its
 # place, the repository, what the lines begin with.
 OWN_ROOT = """
@@ -350,7 +414,7 @@ def the_set_up_works(folder):
     os.symlink(os.path.join(TOP, "deploy"), os.path.join(work, "deploy"))
     for name, interpreter, text in (("systemctl", sys.executable, SYSTEMCTL), ("apt-get", "/bin/sh", APT_GET)):
         written(os.path.join(work, "bin", name), f"#!{interpreter}\n{text}", 0o755)
-    lines = text_of(os.path.join(TOP, "docs", "OPERATIONS.md")).split(SET_UP)[1].split("```")[0]
+    (lines,) = page_lines("registry_setup", {})
     written(os.path.join(work, "lines.sh"), lines)
     written(os.path.join(work, "tried.py"), TRIED)
     inside = (
@@ -365,4 +429,4 @@ def the_set_up_works(folder):
 
 
 if __name__ == "__main__":
-    main(__doc__)
+    main(__doc__, side_by_side=True)

@@ -9,27 +9,37 @@ import concurrent.futures
 import functools
 import http.client
 import itertools
+import json
 import os
 import random
 import signal
 import threading
 
+from harness import TOP
 from harness.registry import (
     IMAGE_PUSHED,
     KIB,
     LOGIN,
+    PASSWORD,
     PROXY,
     UPLOADED,
     Client,
+    Repository,
     Site,
+    index_of,
     is_refused,
+    manifest_of,
     push_image,
+    refusal_of,
+    restart,
+    site_with_redis,
     skopeo,
     write_image,
 )
-from harness.running import MIB, Repeated, becomes
-from harness.suite import case, check, equal, main
+from harness.running import MIB, Repeated, becomes, finished, page_lines
+from harness.suite import OPTIONS, case, check, equal, main
 from harness.wire import PATIENCE, is_silent, sha256
+import referenced
 
 EMPTY_BLOB = sha256(b"")
 # uploads that a shard has room for
@@ -246,6 +256,81 @@ def a_new_shard_moves_few():
     check("who moves goes to the new shard", all(three[name] == "shard3" for name in moved), moved)
     counts = [list(three.values()).count(f"shard{number}") for number in (1, 2, 3)]
     check("shards have about as much as each other", min(counts) > 60 and max(counts) < 140, counts)
+
+
+def images_that_move(site, redis, name):
+    """An image, an index of it and of another one, and one that an earlier version took: their manifests by tags."""
+    kept = Repository(site, name)
+    equal(f"an image in {name}", push_image(site.client(), name), IMAGE_PUSHED)
+    one = kept.get("one")
+    parts = b"{}", random.Random(1).randbytes(MIB)
+    kept.push(*parts)
+    child = manifest_of(*parts)
+    index, older = index_of(one, child), manifest_of(*parts, b"{}")
+    others = (sha256(child), child), ("all", index), ("old", older)
+    equal("the others", [kept.put(reference, body)[0] for reference, body in others], [201] * 3)
+    referenced.Redis(redis.address, PASSWORD).ask("HDEL", f"manifest:{name}@{sha256(older)}", "shard")
+    return {"all": index, "old": older, "one": one}
+
+
+def moved_by_the_page(site, redis, folder):
+    """Runs the lines that move blobs to their shard."""
+    places = {
+        "/var/tmp": folder,
+        "deploy/": os.path.join(TOP, "deploy", ""),
+        "127.0.0.1:6380": redis.address,
+        "127.0.0.1:5081": site.haproxy.local,
+        "127.0.0.1:5001": site.addresses[0],
+    }
+    os.symlink(OPTIONS.program, os.path.join(folder, "blobd"))
+    (lines,) = page_lines("registry_shards", places)
+    settings = {"PATH": folder + os.pathsep + os.environ["PATH"], "FRONT_REDIS_PASSWORD": PASSWORD}
+    ran = finished(["sh", "-u", "-c", lines], env=settings)
+    equal("the lines of the page", (ran.returncode, ran.stderr), (0, ""))
+
+
+def names_listed(site):
+    return json.loads(site.client().ask("GET", "/v2/_catalog").body)["repositories"]
+
+
+@case(*PROXY, "redis-server", "curl")
+def a_new_shard_loses_no_tag(folder):
+    """Manifests of a repository that moves to a new shard are answered 404, and stay, however often they are asked for.
+    They are back once their blobs are. What is lost then with the new shard is dropped."""
+    with site_with_redis(folder, 2) as (redis, site):
+        (staying,), (moving,) = site.names_on_both_shards(1)
+        second = site.haproxy.settings.pop("BLOBD_2")
+        restart(site.haproxy)
+        tags = images_that_move(site, redis, moving)
+        equal("an image that stays", push_image(site.client(), staying), IMAGE_PUSHED)
+        restart(site.haproxy, BLOBD_2=second)
+        client, home = site.client(), f"/v2/{moving}"
+        for turn in range(2):
+            for reference in (*tags, sha256(tags["all"])):
+                heard = client.ask("GET", f"{home}/manifests/{reference}")
+                is_refused(f"{reference}, turn {turn}", heard, 404, "MANIFEST_UNKNOWN", "has moved to another shard")
+            heard = client.ask("GET", f"{home}/tags/list")
+            is_refused(f"its tags, turn {turn}", heard, 404, "NAME_UNKNOWN", "has moved to another shard")
+            equal(f"the repositories, turn {turn}", names_listed(site), [staying])
+        equal("what stays", Repository(site, staying).tags()[0], ["one"])
+        moved = Repository(site, moving)
+        moved.push(b"new")
+        equal("one is pushed to the new shard", moved.put("new", manifest_of(b"new"))[0], 201)
+        equal("its tag alone is there", moved.tags()[0], ["new"])
+        listed = [names_listed(site) for _ in range(10)]
+        equal("and the repository, whichever manifest is looked at", listed, [sorted([staying, moving])] * 10)
+        moved_by_the_page(site, redis, folder)
+        equal("its tags are back", moved.tags()[0], sorted([*tags, "new"]))
+        equal("with their manifests", {tag: moved.get(tag) for tag in tags}, tags)
+        _, _, message = refusal_of(client.ask("GET", f"{home}/manifests/none"))
+        equal("one that was never there", message, "the repository has no such manifest")
+        equal("and the repository", names_listed(site), sorted([staying, moving]))
+        restart(site.shards[1])
+        heard = client.ask("GET", f"{home}/manifests/all")
+        is_refused("lost with the new shard", heard, 404, "MANIFEST_UNKNOWN", "was lost with its shard")
+        equal("what was lost has no tags", moved.tags()[0], 404)
+        left = referenced.Redis(redis.address, PASSWORD).ask("EXISTS", f"tags:{moving}")
+        equal("and is dropped", left, 0)
 
 
 @case(*PROXY)

@@ -4,7 +4,9 @@ import contextlib
 import json
 import os
 import random
+import signal
 import ssl
+import sys
 import tempfile
 from socket import SO_RCVBUF, SOL_SOCKET
 
@@ -12,11 +14,13 @@ import images
 import servers
 
 from . import wire
-from .running import KIB, MIB, told_by
+from .running import KIB, MIB, finished, told_by
 from .suite import OPTIONS, check, equal
 from .wire import sha256
 
 LOGIN = ("alice", "wonder")
+# of Redis
+PASSWORD = "secret"
 # what every reverse proxy needs
 PROXY = ("haproxy", "openssl")
 # the statuses of a push in one chunk that goes well
@@ -114,6 +118,34 @@ class Site:
         return found
 
 
+def with_redis(redis):
+    """The settings of HAProxy that keep manifests there."""
+    return {"FRONT_REDIS": redis.address, "FRONT_REDIS_PASSWORD": PASSWORD}
+
+
+@contextlib.contextmanager
+def site_with_redis(folder, shards=1, clock=None, more=None):
+    """A Redis, with the variables of a clock if it is given them, and a site whose manifests it keeps."""
+    redis = servers.Redis(folder, PASSWORD)
+    redis.settings |= clock or {}
+    with redis, Site(shards, more=(more or {}) | with_redis(redis)) as site:
+        yield redis, site
+
+
+def restart(service, by=signal.SIGKILL, **settings):
+    """Ends a server and starts it again, with these settings too."""
+    service.end(by)
+    service.settings |= settings
+    service.start()
+
+
+def referenced_by(redis, *words, password=PASSWORD):
+    """The status of `referenced.py`, the lines that it prints, and what it says beside them."""
+    words = [sys.executable, os.path.join(servers.HERE, "referenced.py"), *words, redis.address]
+    ran = finished(words, env={"FRONT_REDIS_PASSWORD": password})
+    return ran.returncode, ran.stdout.splitlines(), ran.stderr.splitlines()
+
+
 class Repository:
     """A repository's manifests and tags, as a client asks for them."""
 
@@ -150,6 +182,10 @@ def descriptor(content, kind="application/octet-stream"):
 def manifest_of(config, *layers):
     parts = {"config": descriptor(config), "layers": [descriptor(layer) for layer in layers]}
     return json.dumps({"schemaVersion": 2, "mediaType": images.MANIFEST, **parts}).encode()
+
+
+def index_of(*manifests, **more):
+    return json.dumps({"schemaVersion": 2, **more, "manifests": [descriptor(one) for one in manifests]}).encode()
 
 
 def push_image(client, name):

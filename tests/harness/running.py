@@ -4,6 +4,7 @@ import contextlib
 import http.client
 import multiprocessing
 import os
+import re
 import resource
 import select
 import signal
@@ -14,6 +15,7 @@ import time
 
 import servers
 
+from . import TOP
 from .suite import OPTIONS
 from .wire import PATIENCE, Client, begun_reply, connected, demand, rest_of, sha256
 
@@ -55,6 +57,15 @@ def told_by(words, **options):
     """The exit status of a run of a program, and the end of what it printed."""
     ran = finished(words, **options)
     return ran.returncode, (ran.stdout + ran.stderr)[-1_000:]
+
+
+def page_lines(test, places):
+    """The lines of docs/OPERATIONS.md before which it says that this test runs them, each of its texts. Other words
+    stand in the place of these."""
+    with open(os.path.join(TOP, "docs", "OPERATIONS.md"), encoding="utf-8") as file:
+        texts = re.findall(rf"<!-- tests/{test}\.py runs these lines.*?-->\n```sh\n(.*?)```", file.read(), re.DOTALL)
+    words = re.compile("|".join(map(re.escape, places)) or "$^")
+    return [words.sub(lambda found: places[found[0]], text) for text in texts]
 
 
 def without_builds(folder, *files):
