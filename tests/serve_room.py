@@ -13,7 +13,7 @@ from harness.data import bodies
 from harness.pushers import NAME, has_all, post
 from harness.running import FULL, KIB, MIB, Server, pull, pulled_until_its_end, run
 from harness.suite import OPTIONS, case, check, equal, main
-from harness.wire import PATIENCE, begun_reply, sha256, sha512
+from harness.wire import PATIENCE, begun_reply, is_silent, sha256, sha512
 
 ROOM = 12 * MIB
 # what the tables take for a blob, beside its name
@@ -238,8 +238,7 @@ def an_upload_larger_than_the_room(folder):
                 end = len(content) // 2 if is_killed and taken == 0 else len(content)
                 while taken < end:
                     chunk = content[taken : taken + size]
-                    statuses = until(202, lambda: client.ask("PATCH", place, chunk).status)
-                    equal(f"a chunk at {taken}", (statuses[-1], set(statuses) <= {202, 503}), (202, True))
+                    equal(f"a chunk at {taken}", client.ask("PATCH", place, chunk).status, 202)
                     taken += len(chunk)
                 wrong = client.ask("PUT", f"{place}?digest={digest_of(b'other')}").status
                 equal("a close by another digest", wrong, 400)
@@ -253,6 +252,35 @@ def an_upload_larger_than_the_room(folder):
                     server.process.wait()
         with serving(BLOBD_DATA=path) as server:
             equal("the blob after a start", pull(server, NAME, digest_of(content)) == content, True)
+
+
+@case()
+def a_chunk_waits_for_the_hash(folder):
+    """An upload whose hash stands still takes chunks up to an eighth of the room, and what came before that. Then a large
+    chunk waits, and nobody else. All of it is taken in once the hash goes on."""
+    room, size = 64 * MIB, MIB
+    held = os.path.join(folder, "held")
+    for kept in ({}, {"BLOBD_DATA": os.path.join(folder, "data")}):
+        env = shims.loaded(folder, "threads", THREADS_HELD=held) | kept
+        with serving(room, **env) as server, server.client() as client, server.client() as other:
+            place = client.opened(NAME)
+            open(held, "x", encoding="ascii").close()
+            content = bytearray()
+            while len(content) <= room:
+                chunk = random.Random(len(content)).randbytes(size)
+                content += chunk
+                client.send_head("PATCH", place, Content_Length=size)
+                client.send(chunk)
+                if is_silent(client.socket, 1):
+                    break
+                equal(f"a chunk, {len(content)} bytes", client.reply("PATCH").status, 202)
+            check("a chunk waits", room // 8 < len(content) <= room // 8 + 4 * size, len(content))
+            equal("others don't", other.ask("GET", "/v2/").status, 200)
+            equal("nor does a status", other.ask("GET", place).fields["Range"], f"0-{len(content) - size - 1}")
+            equal("nor another upload", other.push(NAME, content[:size]), [202, 202, 201])
+            os.remove(held)
+            equal("it goes on with the hash", client.reply("PATCH").status, 202)
+            equal("a close", client.ask("PUT", f"{place}?digest={sha256(content)}").status, 201)
 
 
 @case()

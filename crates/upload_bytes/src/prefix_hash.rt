@@ -1,5 +1,5 @@
 //! A running hash that holds a prefix of a session's segments, and catches up with them.
-ghost use Rattle.std.specs.Prelude.{◌≤◌, ◌++◌, ℕ, List, [], length, IfSome};
+ghost use Rattle.std.specs.Prelude.{◌≡◌, ◌≤◌, ◌^◌, ◌-◌, ◌++◌, ℕ, List, [], length, min, drop, IfSome};
 ghost use Rattle.upload_names.specs.declared.digest.Algorithm.{Algorithm as By};
 ghost use Rattle.upload_bytes.specs.Running.{HoldsBy};
 ghost use Rattle.std.specs.List.{concat};
@@ -7,6 +7,7 @@ ghost use Rattle.upload_bytes.specs.Prefixes.{HoldsPrefix};
 
 use crate::hashing::{HashPlace, Hashing, Running};
 use crate::part::Part;
+use crate::segments::size_of;
 use crate::thread_end::ThreadEnd;
 use std::alloc::Global;
 use std::mem;
@@ -48,6 +49,14 @@ impl PrefixHash {
             running: Hashing::Here(hash),
             held: settled.len(),
         }
+    }
+
+    /// How many bytes of these segments the hash lacks, and no thread is at work to take in.
+    pub fn lacks(&self, settled: &[Part]) -> u64
+        requires { self.now.held ≤ length settled.now }
+        ensures { result ≡ min (length (concat (drop self.now.held settled.now))) (2 ^ 64 - 1) }
+    {
+        size_of(&settled[self.held..])
     }
 
     /// Takes all segments in at a place. While a thread is at work this does nothing, and nor does it if the thread

@@ -110,6 +110,16 @@ impl Received {
         }
     }
 
+    /// How many bytes the hash by an algorithm lacks of the segments that stay as they are, and no thread is at work to
+    /// take in.
+    pub fn lacks(&self, algorithm: Algorithm) -> u64 {
+        let settled = self.segments.settled();
+        match algorithm {
+            Algorithm::Sha256 => self.sha256.lacks(settled),
+            Algorithm::Sha512 => self.sha512.lacks(settled),
+        }
+    }
+
     /// Has the hash by an algorithm back from a thread that has ended, whose stack goes with that, if the thread can be
     /// joined at this place. Nobody waits, and nothing that is seen changes. Gives the end of the thread that is at
     /// work, if one is.

@@ -106,6 +106,14 @@ impl Upload {
         }
     }
 
+    /// How many bytes the hash by an algorithm lacks, and no thread is at work to take in (`Received::lacks`).
+    pub fn lacks(&self, algorithm: Algorithm) -> u64 {
+        match &self.content {
+            Content::Held(received) => received.lacks(algorithm),
+            Content::Gone(_) => 0,
+        }
+    }
+
     /// Has the hash by an algorithm back from a thread that has ended (`Received::take_back`), and has the bytes go, or
     /// leave memory, if they are to and no thread is at work for them. Nothing that is seen changes.
     pub fn take_back<P: HashPlace>(

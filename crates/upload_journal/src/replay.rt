@@ -299,7 +299,7 @@ fn serve(service: &mut Service, ask: Ask, secret: [u8; 12], now: u64) -> Answer
     let upload = upload_of(&ask);
     let answer = service.step(ask, secret, now);
     if let Some(at) = upload {
-        service.evict(&InPlace, &at);
+        let _ = service.evict(&InPlace, &at);
     }
     answer
 }

@@ -7,10 +7,12 @@ use upload_bytes::{Front, InThreads, Spool, ThreadEnd};
 use upload_names::{Algorithm, UploadRef};
 use upload_service::{Request, Service};
 
-/// What is wished of the hash of a session by an algorithm, since its close is to come, or of where bodies are kept.
+/// What is wished of the hashes of a session, since a chunk or its close is to come, or of where bodies are kept.
 #[derive(Drop)]
 pub enum Wish {
-    /// That the hash goes on.
+    /// That they keep up with who sends to the session.
+    KeepsUp(UploadRef),
+    /// That the hash by an algorithm goes on.
     GoesOn(UploadRef, Algorithm),
     /// What the session received, with the hash.
     Front(UploadRef, Algorithm),
@@ -51,6 +53,7 @@ impl Wish {
     {
         let place = InThreads(rt);
         match self {
+            Wish::KeepsUp(at) => told_of(service.keep_up(&place, &at)),
             Wish::GoesOn(at, algorithm) => told_of(service.catch_up(&place, &at, algorithm)),
             Wish::Front(at, algorithm) => match service.front(&place, &at, algorithm) {
                 Some(front) => WishReply::Front(front),

@@ -16,14 +16,14 @@ use upload_bytes::{Body, Spool};
 use upload_names::{Algorithm, BlobDigest, RepoName, UploadRef};
 use upload_service::{Answer, Ask, Extent, GoneChunk, Request};
 
-/// How often a seat waits at most for the hash of an upload before it asks for the close. Twice are enough if nothing
-/// comes meanwhile: for the thread that was at work, and for the one that takes the rest in.
+/// How often a seat waits at most for the hash of an upload before it asks for a chunk or the close. Twice are enough if
+/// nothing comes meanwhile: for the thread that was at work, and for the one that takes the rest in.
 const MOST_WAITS: u32 = 4;
 
 /// How often a seat hashes the body of a close at most, if chunks come meanwhile.
 const MOST_HASHES: u32 = 4;
 
-/// The fewest bytes of a body that the keeper doesn't hash.
+/// The fewest bytes of a body that the keeper doesn't hash, and of a chunk that waits for the hash of its upload.
 const WORTH_HASHING: u64 = 262_144;
 
 /// How many times as fast bytes are compared as hashed, at least.
@@ -171,16 +171,30 @@ impl Seat {
         Seat { place, ends }
     }
 
-    /// Sends a request to the keeper, and waits for the answer. Before a close with a digest it waits for the hash of
-    /// what the upload received, and hashes a large body behind that itself, while the keeper serves others.
+    /// Sends a request to the keeper, and waits for the answer. Before a large chunk it waits for the hash of what the
+    /// upload received, if that lags far behind. Before a close with a digest it waits for all of that hash, and hashes a
+    /// large body behind that itself, while the keeper serves others.
     ///
     /// `NotSent` comes only if the line handed the request back or an earlier call ended `Gone`. `NoAnswer` comes
     /// only if no answer came after the request was sent.
     pub fn ask<R: Wait>(&mut self, rt: &R, ask: Ask, secret: [u8; 12]) -> Result<Answer, Gone>
         ensures { Asks self.old ask secret result self.new }
     {
+        self.keep_pace(rt, &ask);
         let ask = self.prepare(rt, ask);
         self.ask_at_once(rt, ask, secret)
+    }
+
+    // Waits for the hashes of a session that is to take a large chunk, if they lag far behind what it received. Nothing
+    // that is seen changes.
+    fn keep_pace<R: Wait>(&mut self, rt: &R, ask: &Ask)
+        ensures { self.new ≡ self.old }
+    {
+        if let Ask::Chunk { at, body, .. } = ask {
+            if body.len() as u64 >= WORTH_HASHING && !self.place.gone {
+                self.wait_for(rt, *at, None);
+            }
+        }
     }
 
     // The same request, with all hashed that can be hashed before it is asked.
@@ -211,20 +225,24 @@ impl Seat {
         match digest {
             Some(digest) if !self.place.gone => {
                 let algorithm = digest.algorithm();
-                self.wait_for_hash(rt, at, algorithm);
+                self.wait_for(rt, at, Some(algorithm));
                 self.hash_body(rt, at, algorithm, body)
             }
             _ => body,
         }
     }
 
-    // Waits until a session's hash by this algorithm holds all that the session received but for little, or chunks went
-    // on coming. Nothing that is seen changes.
-    fn wait_for_hash<R: Wait>(&mut self, rt: &R, at: UploadRef, algorithm: Algorithm)
+    // Waits until the hash of a session by this algorithm holds all that the session received but for little, or, if there
+    // is none, until its hashes keep up; or chunks went on coming. Nothing that is seen changes.
+    fn wait_for<R: Wait>(&mut self, rt: &R, at: UploadRef, closing: Option<Algorithm>)
         ensures { self.new ≡ self.old }
     {
         'waits: for _ in 0..MOST_WAITS {
-            let WishReply::AtWork(end) = self.wish(rt, Wish::GoesOn(at, algorithm)) else {
+            let wish = match closing {
+                Some(algorithm) => Wish::GoesOn(at, algorithm),
+                None => Wish::KeepsUp(at),
+            };
+            let WishReply::AtWork(end) = self.wish(rt, wish) else {
                 break;
             };
             end.wait(rt);
@@ -261,7 +279,7 @@ impl Seat {
             }
             behind = received;
             body = body.hashed_behind(front);
-            self.wait_for_hash(rt, at, algorithm);
+            self.wait_for(rt, at, Some(algorithm));
         }
         body
     }

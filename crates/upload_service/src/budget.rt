@@ -9,6 +9,9 @@ use upload_bytes::{Body, Grant, Room};
 /// room for any.
 const SPARE: u64 = 65_536;
 
+/// The most bytes that the hash of a session may lack before it takes a large chunk, whatever the room: 128 MiB.
+const MOST_LACKING: u64 = 134_217_728;
+
 /// The room that changes are granted of, if there is a limit. It is seen as whether nothing may change.
 #[derive(Drop)]
 pub struct Budget {
@@ -54,6 +57,14 @@ impl Budget {
         match &self.room {
             Some(room) => room.left() < room.limit() / 2,
             None => false,
+        }
+    }
+
+    /// The most bytes that the hash of a session may lack before it takes a large chunk: at most an eighth of the room.
+    pub fn most_lacking(&self) -> u64 {
+        match &self.room {
+            Some(room) => MOST_LACKING.min(room.limit() / 8),
+            None => MOST_LACKING,
         }
     }
 

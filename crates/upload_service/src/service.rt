@@ -219,7 +219,7 @@ impl Service {
         ensures { self.new ≡ self.old }
     {
         self.take_back(place);
-        self.evict(place, at);
+        let _ = self.evict(place, at);
         self.tables
             .sessions
             .catch_up(place, self.tables.alloc, at, algorithm)
@@ -227,12 +227,37 @@ impl Service {
 
     /// If less than half of the room is left, has the bytes of a session leave memory that files have: both hashes take
     /// in at a place what they lack. If threads do that, the bytes leave with the first `catch_up` of this session behind
-    /// their end. Nothing that is seen changes, and the session goes on as before.
-    pub fn evict<P: HashPlace>(&mut self, place: &P, at: &UploadRef)
+    /// their end. Gives the end of one of these threads, if one is at work. Nothing that is seen changes, and the session
+    /// goes on as before.
+    pub fn evict<P: HashPlace>(&mut self, place: &P, at: &UploadRef) -> Option<ThreadEnd>
         ensures { self.new ≡ self.old }
     {
-        if self.tables.budget.is_half_used() {
-            self.tables.sessions.evict(place, self.tables.alloc, at);
+        if !self.tables.budget.is_half_used() {
+            return None;
+        }
+        self.tables.sessions.evict(place, self.tables.alloc, at)
+    }
+
+    /// Has an open session keep up with who sends to it, before it takes a large chunk. Its bytes leave memory, if they
+    /// are to (`evict`), and its SHA-256 goes on (`catch_up`). Gives the end of a thread that is to be waited for: until
+    /// then the bytes stay in memory, or more than 128 MiB, or an eighth of the room, wait for the hash. So a close
+    /// has no more than that to hash beside what one thread does. The caller then asks again. Nothing that is seen
+    /// changes, and a chunk that doesn't wait is taken too.
+    pub fn keep_up<P: HashPlace>(&mut self, place: &P, at: &UploadRef) -> Option<ThreadEnd>
+        ensures { self.new ≡ self.old }
+    {
+        self.take_back(place);
+        if let Some(end) = self.evict(place, at) {
+            return Some(end);
+        }
+        let tables = &mut self.tables;
+        let end = tables
+            .sessions
+            .catch_up(place, tables.alloc, at, Algorithm::Sha256);
+        if tables.sessions.lacks(at, Algorithm::Sha256) > tables.budget.most_lacking() {
+            end
+        } else {
+            None
         }
     }
 

@@ -273,16 +273,35 @@ impl Sessions {
     }
 
     /// Has the bytes of a session leave memory that files have (`Upload::evict`): both hashes take in at a place what
-    /// they lack. If threads do that, the bytes leave with the next call behind their end. Nothing that is seen changes.
-    pub fn evict<P: HashPlace>(&mut self, place: &P, alloc: Global, at: &UploadRef)
+    /// they lack. If threads do that, the bytes leave with the next call behind their end. Gives the end of one of these
+    /// threads, if one is at work. Nothing that is seen changes.
+    pub fn evict<P: HashPlace>(
+        &mut self,
+        place: &P,
+        alloc: Global,
+        at: &UploadRef,
+    ) -> Option<ThreadEnd>
         ensures { self.new ≡ self.old }
     {
         if !self.may_evict(at) {
-            return;
+            return None;
         }
-        let _ = self.catch_up(place, alloc, at, Algorithm::Sha256);
-        let _ = self.catch_up(place, alloc, at, Algorithm::Sha512);
+        let sha256 = self.catch_up(place, alloc, at, Algorithm::Sha256);
+        let sha512 = self.catch_up(place, alloc, at, Algorithm::Sha512);
         self.evict_one(place, alloc, at);
+        match sha512 {
+            Some(end) => Some(end),
+            None => sha256,
+        }
+    }
+
+    /// How many bytes the hash of an open session by an algorithm lacks, and no thread is at work to take in
+    /// (`Upload::lacks`).
+    pub fn lacks(&self, at: &UploadRef, algorithm: Algorithm) -> u64 {
+        match self.open.get(at) {
+            Some(session) => session.received.lacks(algorithm),
+            None => 0,
+        }
     }
 
     /// Whether a session has bytes in memory that files have too.
