@@ -37,8 +37,8 @@ LINES = 10
 DIES_WITH_PARENT = 1
 # below those that Linux gives to connections
 FREE_PORTS = 10_000, 32_768
-# the addresses that `free_address` gave
-given = set()
+# what keeps addresses for this process
+claims = []
 
 # How to see that a package of Debian's is there that isn't named as its program is.
 PACKAGES = {"nginx-light": lambda: program("nginx")}
@@ -80,12 +80,25 @@ def is_taken(address):
     return False
 
 
+def claim(address):
+    """Keeps an address from others that ask here, as long as this process lives: whether nobody has it so far. An
+    abstract socket of its name is the claim, since the system gives each name once."""
+    one = socket.socket(socket.AF_UNIX)
+    try:
+        one.bind(f"\0blobd-{address}")
+    except OSError:
+        one.close()
+        return False
+    claims.append(one)
+    return True
+
+
 def free_address():
-    """An address that nobody listens on now, and that wasn't given before. Its port is none that the system gives to
-    connections, so none of them has it by the time that it is listened on."""
-    while is_taken(address := f"127.0.0.1:{random.randrange(*FREE_PORTS)}") or address in given:
+    """An address that nobody listens on now, and that was given neither before nor to another process that runs, so
+    that a server can end there and start again. Its port is none that the system gives to connections or to who asks
+    for any."""
+    while not claim(address := f"127.0.0.1:{random.randrange(*FREE_PORTS)}") or is_taken(address):
         pass
-    given.add(address)
     return address
 
 
@@ -306,13 +319,21 @@ class HAProxy(Service):
         """Ends its master, and waits for the process that serves: that outlives a master that is killed for a moment,
         and would take connections which are meant for the next HAProxy there."""
         super().end(by)
-        end = time.monotonic() + GOING
+        end = time.monotonic() + PATIENCE
         while any(map(is_taken, self.addresses)) and time.monotonic() < end:
             time.sleep(0.05)
 
+    def serving(self):
+        """The line that tells which of its processes answers."""
+        return next((line for line in self.command("show info").splitlines() if line.startswith("Pid: ")), None)
+
     def reload(self):
-        """Starts a new process with the settings as they are now; the one before serves what it has begun."""
+        """Starts a new process with the settings as they are now, and waits for it; the one before serves what it has
+        begun."""
+        before, end = self.serving(), time.monotonic() + PATIENCE
         self.process.send_signal(signal.SIGUSR2)
+        while self.serving() in (before, None) and time.monotonic() < end:
+            time.sleep(0.05)
 
     def memory(self):
         """The bytes of memory that its processes have resident."""

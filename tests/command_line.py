@@ -176,7 +176,7 @@ def tells_a_terminal_how_to_stop():
     with Server(1, stderr=inner, env={"BLOBD_MEMORY": "64M"}) as server:
         os.close(inner)
         told = b""
-        while told.count(b"\n") < 2 and not is_silent(terminal, 20):
+        while told.count(b"\n") < 2 and not is_silent(terminal, PATIENCE):
             told += os.read(terminal, 65536)
         equal("what it may hold, and how it is stopped", told.splitlines(), [
             b"blobd: it holds at most 64.0 MiB (BLOBD_MEMORY)",

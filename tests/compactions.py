@@ -133,7 +133,7 @@ def files_that_no_record_names(folder):
     copy = os.path.join(folder, "copy")
     shutil.copytree(path, copy)
     with serving(copy) as server:
-        equal("a start", server.told(5), f"blobd: {copy}: 2 files of bodies removed, which no record named\n")
+        equal("a start", server.told(), f"blobd: {copy}: 2 files of bodies removed, which no record named\n")
     told, status, more = run("compact", path)
     equal("a compaction", (status, more), (0, ""))
     check("it says what went", told.endswith(" 2 files went\n"), told)
@@ -371,7 +371,7 @@ def wasteful(path):
 def first_told(path, count, **variables):
     """What a start says first. It has all that was stored, and so many files."""
     with serving(path, env=variables) as server:
-        told = server.told(20)
+        told = server.told()
         stored = [(NAME, LARGE), *((f"lib/{at}", OFTEN) for at in range(TIMES))]
         equal("what is lost", [name for name, blob in stored if pull(server, name, sha256(blob)) != blob], [])
     equal("the files of bodies", len(bodies(path)), count)

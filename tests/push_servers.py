@@ -16,7 +16,7 @@ import time
 from harness import shims
 from harness.listeners import Scripted, head_of, reply_of
 from harness.pushers import SIZES, fill, has_all
-from harness.running import MIB, Server, already, halt, on_a_terminal, pull, push, pushed, run, written
+from harness.running import MIB, Server, already, free_port, halt, on_a_terminal, pull, push, pushed, run, written
 from harness.suite import OPTIONS, case, check, equal, main
 from harness.wire import PATIENCE, address_of, sha256
 import servers
@@ -94,15 +94,15 @@ def servers_that_come_again(folder):
     """A push goes on: over a server that starts again within a minute, and for some seconds over one that can't serve
     yet."""
     content = random.Random(8).randbytes(5000)
-    path = written(folder, content)
-    with Server(100) as server:
+    path, port = written(folder, content), free_port()
+    with Server(100, port) as server:
         addr = server.addr
         equal("a push before the server ends", push(addr, "lib/a", path, 1000), pushed(content))
     with concurrent.futures.ThreadPoolExecutor(1) as pool:
         late = pool.submit(push, addr, "lib/a", path, 1000)
         # longer than its tries and the waits between them take
         time.sleep(8)
-        with Server(100, server.place()[1]) as server:
+        with Server(100, port) as server:
             equal("a server that starts again", late.result(), pushed(content))
             equal("what it was sent", pull(server, "lib/a", sha256(content)), content)
     with Scripted([reply_of("503 Service Unavailable")]) as busy:
@@ -232,8 +232,8 @@ def finds_no_room(name, server, *words):
 @case()
 def a_full_server(folder):
     """A server that has no more room gives a push up, which says so: after some of its chunks, at the first, and at
-    its opening. What was stored is there. One with a data directory takes the same push in chunks that fit, since the
-    bytes of an upload leave memory."""
+    its opening. What was stored is there. One with a data directory takes more than it has room for in chunks that fit,
+    since the bytes of an upload leave memory."""
     stored, chance, data = [], random.Random(9), os.path.join(folder, "data")
     content = chance.randbytes(20 * MIB)
     path, options = written(folder, content), {"stderr": subprocess.DEVNULL}
@@ -246,9 +246,13 @@ def a_full_server(folder):
         finds_no_room("to a server without any room", server, path)
         equal("what it left", pull(server, "lib/b", sha256(content)), 404)
         has_all("what was stored", server, stored)
+    content = content[: 9 * MIB]
+    path = written(folder, content)
     with Server(env={"BLOBD_DATA": data, "BLOBD_MEMORY": "8M"}, **options) as server:
         finds_no_room("in one chunk, to one with a data directory", server, path)
-        equal("in chunks that fit", push(server.addr, "lib/b", path, "1M"), pushed(content))
+        # Bytes leave once threads have hashed them. The third chunk alone may have to wait for that, so a push has all
+        # its tries for it.
+        equal("in chunks that fit", push(server.addr, "lib/b", path, "3M"), pushed(content))
 
 
 @case()

@@ -20,7 +20,7 @@ import time
 from harness import shims
 from harness.listeners import Proxy, Scripted, head_of, reply_of
 from harness.running import (
-    MIB, USAGE, Server, already, has_ipv6, on_a_terminal, pull, push, pushed, unhurried, written,
+    MIB, USAGE, Server, already, free_port, has_ipv6, on_a_terminal, pull, push, pushed, unhurried, written,
 )
 from harness.suite import OPTIONS, case, check, equal, main, skip
 from harness.wire import PATIENCE, sha256
@@ -109,7 +109,8 @@ def push_over_kills(folder, *away):
     path, data = written(folder, content), os.path.join(folder, f"data{len(away)}")
     # before the last chunks, so that none falls after the end of a push
     moments = sorted(chance.sample(range(len(content) // 20, len(content) // 2), len(away)))
-    server, before = Server(env={"BLOBD_DATA": data}), 0
+    port, before = free_port(), 0
+    server = Server(port=port, env={"BLOBD_DATA": data})
     try:
         words = [OPTIONS.program, "push", server.addr, "lib/a", path, "4M"]
         with subprocess.Popen(words, stdout=subprocess.PIPE, stderr=subprocess.PIPE, text=True) as pushing:
@@ -121,7 +122,7 @@ def push_over_kills(folder, *away):
                 server.stop()
                 before = held(data)
                 time.sleep(seconds)
-                server = Server(port=server.place()[1], env={"BLOBD_DATA": data})
+                server = Server(port=port, env={"BLOBD_DATA": data})
             out, error = pushing.communicate(timeout=PATIENCE)
         return content, (out, pushing.returncode, unhurried(error)), pull(server, "lib/a", sha256(content))
     finally:

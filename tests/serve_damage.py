@@ -134,7 +134,7 @@ def damaged_journal(folder):
         flipped(f"{bad}/journal", at := chance.randrange(size), bit := chance.randrange(8))
         with serving(bad) as server:
             if server.first_line == REFUSED[0]:
-                told = server.told(60)
+                told = server.told()
                 check("a damaged journal is named", server.process.wait() == 3 and "journal: " in told, (at, bit, told))
             else:
                 pulled = [pull(server, NAME, sha256(content)) for content in FILLED]

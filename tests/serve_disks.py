@@ -17,7 +17,7 @@ from harness.data import FILLED, LARGEST_IN_JOURNAL, REFUSED, bodies, filled, is
 from harness.pushers import NAME, Pusher, Told, fill, has_all, held, look
 from harness.running import MIB, Repeated, SmallDisk, becomes, pull, pulled_until_its_end, run
 from harness.suite import case, check, equal, main, skip
-from harness.wire import Connection, request_text, sha256
+from harness.wire import PATIENCE, Connection, request_text, sha256
 
 WORKERS = 3
 # what standard error says of the call that failed
@@ -69,7 +69,7 @@ def has_failed(name, server):
     begun = time.monotonic()
     equal(f"{name}: how it ends", server.ended(), REFUSED)
     check(f"{name}: it ends soon", time.monotonic() - begun < 20)
-    told = server.told(60)
+    told = server.told()
     check(f"{name}: what failed is told", FAILED.fullmatch(told), told)
 
 
@@ -149,7 +149,7 @@ def a_read_fails(folder):
             equal(f"{name}: the length", length, len(content))
             check(f"{name}: what comes", content.startswith(came) and (len(came) == length) == is_whole, len(came))
             equal(f"{name}: the next reply", pull(server, NAME, sha256(content)) == content, True)
-            told = server.told(0.2)
+            told = server.told(0.2 if is_whole else PATIENCE)
             check(f"{name}: what is told", UNREAD.fullmatch(told) if not is_whole else not told, told)
 
 
@@ -181,7 +181,7 @@ def a_start_fails(folder):
             if server.first_line != REFUSED[0]:
                 break
             equal(f"sync {spared} of a start: its end", server.ended(), ("", REFUSED[1]))
-            told = server.told(60)
+            told = server.told()
             check(f"sync {spared} of a start is told", "Input/output error (os error 5)" in told, told)
     check("there were syncs, and then a start", spared > 1 and os.path.exists(fails), spared)
     with serving(path) as server:

@@ -31,7 +31,7 @@ def no_descriptors(folder):
     hasty = shims.loaded(folder, "minutes")
     with Server(1, limits=["-S -n 4"], env=hasty, stderr=subprocess.PIPE) as server:
         clients = [server.connect(), server.connect()]
-        told = [server.told(60), server.told(60)]
+        told = [server.told(), server.told()]
         equal("two workers without descriptors", told, [TOO_MANY_FILES] * 2)
         # a wait takes five milliseconds here: more than a thousand of each worker
         time.sleep(6)
@@ -74,7 +74,7 @@ def descriptors_come_again():
             with server.connect() as waiting:
                 waiting.sendall(LAST_BASE)
                 check("no reply while there are none", is_silent(waiting, 1))
-                equal("why there is no reply", server.told(60), TOO_MANY_FILES)
+                equal("why there is no reply", server.told(), TOO_MANY_FILES)
                 equal("the other worker goes on meanwhile", client.ask("GET", "/v2/").status, 200)
                 server.allow_descriptors(64)
                 is_answered("a reply once there are descriptors", waiting)
@@ -113,7 +113,7 @@ def failing_accepts(folder):
     for name in STOPS.split():
         env, says = failing(folder, name, 1)
         with Server(2, env=env, stderr=subprocess.PIPE) as server:
-            equal(f"a worker that stops says so at once: {name}", server.told(60), STOPPED.format(says))
+            equal(f"a worker that stops says so at once: {name}", server.told(), STOPPED.format(says))
             replies = [ask_alone(server, "GET", "/v2/").status for _ in range(2)]
             ended = *server.ended(), server.process.stderr.read()
             equal(f"the other takes all of its own: {name}", (replies, ended), ([200, 200], ("fault: accept\n", 3, "")))

@@ -85,7 +85,7 @@ def goes_on_without(name, path, contents):
     is_looked_at(name, path, AT_THE_END, "at the end")
     is_neither_opened_nor_compacted(name, path)
     with serving_the_rest(path) as server, server.client() as client:
-        first = server.told(5)
+        first = server.told()
         check(f"{name}: it is told", first.startswith("blobd: " + MISSING.format(path)), first)
         found = [pull(server, NAME, sha256(content)) for content in contents]
         there = sum(one == content for one, content in zip(found, contents))
@@ -93,7 +93,7 @@ def goes_on_without(name, path, contents):
         equal(f"{name}: a push", client.push(NAME, more)[-1], 201)
     for _ in range(2):
         with serving(path) as server:
-            equal(f"{name}: what a strict start says then", server.told(5), "blobd: " + WENT_ON.format(path))
+            equal(f"{name}: what a strict start says then", server.told(), "blobd: " + WENT_ON.format(path))
             has_all(f"{name}: what is there", server, [*contents[:there], more])
         check(f"{name}: no file is removed", before.items() <= bodies(path).items())
     going = is_looked_at(f"{name}: after a start", path, "blobd: " + WENT_ON, "before")
@@ -103,7 +103,7 @@ def goes_on_without(name, path, contents):
     equal(f"{name}: the files that went", len(was.keys() - bodies(path).keys()), going)
     is_looked_at(f"{name}: after a compaction", path, "", None)
     with serving(path) as server:
-        told = server.told(5)
+        told = server.told()
         check(f"{name}: nothing is said any more", HOLDS.fullmatch(told), told)
         has_all(f"{name}: what is there after a compaction", server, [*contents[:there], more])
     return there
@@ -153,12 +153,12 @@ def comes_back(name, path, contents, is_told=True):
         is_neither_opened_nor_compacted(name, path)
         check(f"{name}: a compaction that is refused changes nothing", tree(path) == before)
     with serving_the_rest(path) as server, server.client() as client:
-        equal(f"{name}: it is told", server.told(5), MENDED.format(path))
+        equal(f"{name}: it is told", server.told(), MENDED.format(path))
         has_all(f"{name}: what is there", server, contents)
         equal(f"{name}: a push", client.push(NAME, b"more")[-1], 201)
     is_looked_at(f"{name}: after a start", path, "", None)
     with serving(path) as server:
-        told = server.told(5)
+        told = server.told()
         check(f"{name}: nothing is said any more", HOLDS.fullmatch(told), told)
         has_all(f"{name}: what a strict start has", server, [*contents, b"more"])
 
@@ -184,7 +184,7 @@ def damaged_sectors(folder):
         flipped(journal, at + 1 + chance.randrange(HEAD_LEN), chance.randrange(8))
         is_looked_at(f"a copy at {at}", bad, "", None)
         with serving(bad) as server:
-            check("a copy that has changed", HOLDS.fullmatch(told := server.told(5)), told)
+            check("a copy that has changed", HOLDS.fullmatch(told := server.told()), told)
             has_all("what is there", server, contents)
         shutil.rmtree(bad)
         for name, spoil in kinds:
@@ -270,7 +270,7 @@ def torn_gate(folder):
     last = gates_of(content_of(f"{path}/journal"))[-1]
     zeroed(f"{path}/journal", last, last + SECTOR // 2)
     with serving(path) as server, server.client() as client:
-        told = server.told(5)
+        told = server.told()
         check("nothing is said", HOLDS.fullmatch(told), told)
         equal("what was acknowledged before", pull(server, NAME, sha256(b"a")), b"a")
         equal("a push", client.push(NAME, b"c")[-1], 201)

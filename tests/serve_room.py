@@ -179,7 +179,8 @@ def less_than_a_blob_takes():
     few = "blobd: BLOBD_MEMORY is {}, in which hardly a blob has room: it may be 512M or 8G\n"
     for value, said in (("8", "8 B"), ("1K", "1.0 KiB"), ("65535", "63.9 KiB"), ("64K", None)):
         with Server(1, env={"BLOBD_MEMORY": value}, stderr=subprocess.PIPE) as server:
-            equal(f"BLOBD_MEMORY={value}", server.told(0.2), few.format(said) if said else "")
+            # it stands before the line that was waited for
+            equal(f"BLOBD_MEMORY={value}", server.told(0), few.format(said) if said else "")
 
 
 def refused(path, memory, strict="0"):
@@ -292,7 +293,7 @@ def cut_under_a_server(folder):
     content, other = chance.randbytes(3 * MIB), chance.randbytes(2 * MIB)
     with serving(BLOBD_DATA=path) as server, server.client() as client:
         equal("they are stored", [post(client, content), post(client, other)], [201, 201])
-        server.told(0.2)
+        server.told()
         files = [os.path.join(path, body) for body in bodies(path)]
         file = next(file for file in files if os.path.getsize(file) == len(content))
         for left in (3 * MIB - 1, MIB, 1, 0, None):
@@ -305,7 +306,7 @@ def cut_under_a_server(folder):
             check(f"what comes, with {left} bytes left of it", len(came) < length and content.startswith(came), len(came))
             equal("a HEAD of it", client.ask("HEAD", f"/v2/{NAME}/blobs/{sha256(content)}").status, 200)
             equal("another is whole", pull(server, NAME, sha256(other)), other)
-        told = server.told(0.2)
+        told = server.told()
         check("it is told", told.startswith(f"blobd: {file} can't be read: ") and told.count("\n") == 1, told)
 
 

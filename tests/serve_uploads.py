@@ -107,7 +107,7 @@ def statuses():
         # two sessions of answered() are still open
         is_right = opened == [202] * 1022 + [429] * 8
         check("as many sessions as there may be, and no more", is_right, opened[1015:])
-        equal("what is told of that", server.told(5), TABLE_FULL)
+        equal("what is told of that", server.told(), TABLE_FULL)
 
 
 @case()

@@ -212,10 +212,16 @@ class SmallDisk:
             subprocess.run(["umount", "-l", self.path], check=True)
 
 
+def free_port():
+    """A port that no other test is given, also not while nobody listens there."""
+    return servers.place(servers.free_address())[1]
+
+
 class Server:
     """`blobd serve`, each worker for so many connections, or for all that come; on a port that the system picks, unless
-    one is given, with these variables in its environment, under limits of the system, as ["-n 4"] for four descriptors,
-    and with what the shell does to its streams, as "2>&-"."""
+    one is given, which is to be a `free_port` if it is to start there again; with these variables in its environment,
+    under limits of the system, as ["-n 4"] for four descriptors, and with what the shell does to its streams, as
+    "2>&-"."""
 
     def __init__(self, count=None, port=0, host="127.0.0.1", env=None, limits=(), shell="", **options):
         words = [OPTIONS.program, "serve", f"{host}:{port}"] + ([] if count is None else [str(count)])
@@ -279,8 +285,9 @@ class Server:
         status = self.process.wait(timeout=PATIENCE)
         return self.process.stdout.read(), status
 
-    def told(self, seconds):
-        """The next line on standard error, or what comes of it in time."""
+    def told(self, seconds=PATIENCE):
+        """The next line on standard error, or what comes of it in time: less than the usual time is for lines that
+        have come already, or aren't to come."""
         line, descriptor = b"", self.process.stderr.fileno()
         # one byte at a time, so that what comes behind the line isn't held here
         while not line.endswith(b"\n") and select.select([descriptor], [], [], seconds)[0]:
