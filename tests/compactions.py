@@ -11,12 +11,14 @@ import re
 import shutil
 import time
 
+from harness import shims
 from harness.data import REFUSED, SIZE, bodies, files, flipped, serving
 from harness.pushers import NAME, has_all
 from harness.running import MIB, SmallDisk, pull, run
 from harness.suite import case, check, equal, main, skip
 from harness.wire import sha256, sha512
 
+HOUR = 3_600
 # what a dry run says
 WASTE = re.compile(rf"would go: {SIZE} of {SIZE} of records, (\d+) of (\d+) files?, {SIZE} of {SIZE} in them\n")
 
@@ -286,30 +288,31 @@ def all_go_from_a_list_of_others(folder):
     check("it says that no blob went", told.endswith(", repositories gave up 0 blobs\n"), told)
 
 
-@case()
+@case("cc")
 def what_is_young_stays(folder):
     """Whatever the list says: that of a day, or of the time that is said. A mount makes a pair young again."""
-    path = os.path.join(folder, "data")
+    path, ahead = os.path.join(folder, "data"), os.path.join(folder, "ahead")
+    clock = shims.loaded(folder, "ahead", CLOCK_AHEAD=ahead)
+    shims.pass_time(ahead, 0)
     old, young, often = b"old", b"young", b"often"
     mount = f"/v2/{NAME}/blobs/uploads/?mount={sha256(often)}&from={NAME}"
-    with serving(path) as server, server.client() as client:
+    with serving(path, env=clock) as server, server.client() as client:
         equal("blobs", [client.push(NAME, blob, 10)[-1] for blob in (old, often)], [201, 201])
-        begun = int(time.time())
-        time.sleep(4)
+        shims.pass_time(ahead, 2 * HOUR)
         equal("another one", client.push(NAME, young, 10)[-1], 201)
         equal("a mount", client.ask("POST", mount).status, 201)
     keep, was = listed(folder, ("lib/b", sha256(old))), files(path)
     for grace in ([], ["--grace", "86400"], ["--grace", "1000000000"]):
-        dry, status, more = run("compact", "--dry-run", *grace, path, keep)
+        dry, status, more = run("compact", "--dry-run", *grace, path, keep, env=clock)
         equal("nothing would go", (status, more, dry.count("\n")), (0, "", 1))
         check("it says so", dry.endswith(", repositories would give up 0 blobs\n"), dry)
     equal("nothing is changed", files(path) == was, True)
-    told, status, more = run("compact", "--grace", str(int(time.time()) - begun - 2), path, keep)
+    told, status, more = run("compact", "--grace", str(HOUR), path, keep, env=clock)
     equal("a compaction", (status, more), (0, ""))
     check("it says so", told.endswith(", repositories gave up 1 blob\n"), told)
     with serving(path) as server:
         equal("what is there", [pull(server, NAME, sha256(blob)) for blob in (old, young, often)], [404, young, often])
-    told = run("compact", path, keep)[0]
+    told = run("compact", path, keep, env=clock)[0]
     check("by a day nothing goes", told.endswith(", repositories gave up 0 blobs\n"), told)
     with serving(path) as server:
         has_all("what is still there", server, [young, often])

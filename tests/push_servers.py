@@ -16,7 +16,9 @@ import time
 from harness import shims
 from harness.listeners import Scripted, head_of, reply_of
 from harness.pushers import SIZES, fill, has_all
-from harness.running import MIB, Server, already, free_port, halt, on_a_terminal, pull, push, pushed, run, written
+from harness.running import (
+    MIB, Server, already, free_port, halt, on_a_terminal, pull, push, pushed, run, unhurried, written,
+)
 from harness.suite import OPTIONS, case, check, equal, main
 from harness.wire import PATIENCE, address_of, sha256
 import servers
@@ -309,7 +311,7 @@ def signals_between(folder):
                 time.sleep(0.3)
                 halt(ran, 0.1)
             out, error = ran.communicate(timeout=PATIENCE)
-        equal("a push that is stopped and goes on", (out, ran.returncode, error), already(b"abc"))
+        equal("a push that is stopped and goes on", (out, ran.returncode, unhurried(error)), already(b"abc"))
         equal("two requests of it", [len(lines) for lines in server.asked], [1, 1])
 
 

@@ -17,7 +17,7 @@ import sys
 
 from harness import TOP
 from harness.registry import IMAGE_PUSHED, LOGIN, PROXY, Client, push_image
-from harness.running import finished, has_ipv6, page_lines, told_by
+from harness.running import finished, free_port, has_ipv6, page_lines, told_by
 from harness.suite import OPTIONS, case, check, equal, lacks, main, skip
 from harness.wire import PATIENCE, sha256
 import servers
@@ -163,7 +163,8 @@ def a_registry_without_a_program(folder):
 @case()
 def which_addresses_are_taken():
     """Those at which somebody listens, also at all of the machine's; not those of a connection that has ended."""
-    with socket.create_server(("0.0.0.0", 0)) as listener:
+    # no connection of others has this port once the listener is gone
+    with socket.create_server(("0.0.0.0", free_port())) as listener:
         taken = f"127.0.0.1:{listener.getsockname()[1]}"
         check("one of all", servers.is_taken(taken))
         with socket.create_connection(servers.place(taken)) as client:

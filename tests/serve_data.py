@@ -14,7 +14,7 @@ from harness.data import CONTENTS, LARGEST_IN_JOURNAL, killed_start, serving, se
 from harness.pushers import NAME, Pusher, Told, close_some, has_all, held, look, post
 from harness.running import MIB, SERVED, Repeated, becomes, page_lines, pull
 from harness.suite import OPTIONS, case, check, equal, main
-from harness.wire import request_text, sha256, sha512
+from harness.wire import PATIENCE, request_text, sha256, sha512
 
 
 @case()
@@ -123,6 +123,12 @@ def idle_hour(folder):
 
 
 CLIENTS = 8
+DEEDS = {"whole", "upload", "mount", "resume", "pull", "after a kill"}
+
+
+def lacks(told):
+    """What clients have yet to do before there is enough of each."""
+    return DEEDS - told.done.keys() or len(told.stored) <= 50
 
 
 @case()
@@ -131,7 +137,7 @@ def killed_at_random(folder):
     has the offset that its client was told or one chunk more, and goes on there, and every byte is right."""
     path, told, chance = os.path.join(folder, "data"), Told(), random.Random(OPTIONS.seed)
     end, kills = time.monotonic() + OPTIONS.seconds, 0
-    while kills < OPTIONS.kills or time.monotonic() < end:
+    while kills < OPTIONS.kills or time.monotonic() < end or (lacks(told) and time.monotonic() < end + PATIENCE):
         for _ in range(chance.randrange(3)):
             killed_start(path, chance.choice((0, 0.001, 0.01, 0.05)))
         with serving(path, env={"BLOBD_WORKERS": CLIENTS}) as server:
@@ -148,8 +154,7 @@ def killed_at_random(folder):
         look(server, told, chance)
         wrong = [key for key, content in told.stored.items() if pull(server, *key) != content]
         check("all that was ever answered 201", not wrong, wrong[:3])
-    lacking = {"whole", "upload", "mount", "resume", "pull", "after a kill"} - told.done.keys()
-    check("there was each of what clients do", not lacking and len(told.stored) > 50, told.done)
+    check("there was each of what clients do", not lacks(told), told.done)
     print(f"{kills} kills, {len(told.stored)} blobs, {dict(told.done)}")
 
 

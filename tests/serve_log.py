@@ -158,21 +158,30 @@ def unread_log_at_the_end():
         check("it waits for who reads the log", time.monotonic() - begun > 1.9, time.monotonic() - begun)
 
 
-@case()
-def log_read_late():
-    """The lines that wait when a server ends are still written. So many fill the pipe, and less than a log holds
-    wait."""
+def read_late():
+    """What a log has that is read a moment after its server began to end: the lines, and how many more were lost. So
+    many fill the pipe, and less than a log holds wait."""
     with logging_server() as (server, pipe):
         with server.client() as client:
             replies = base_replies(client, 600)
         server.connect().close()
         time.sleep(0.2)
-        check("it waits for who reads the log late", server.process.poll() is None)
-        text = b""
+        waits, text = server.process.poll() is None, b""
         while not is_silent(pipe, PATIENCE) and (part := os.read(pipe, 65536)):
             text += part
         equal("the last line once the log is read", (replies, server.ended()), ([200] * 600, SERVED))
-        equal("a log that is read late", accounted(text), (600, 0))
+        return waits, accounted(text)
+
+
+@case()
+def log_read_late():
+    """The lines that wait when a server ends are still written, if they are read within two seconds. A machine that is
+    stopped for so long may disturb one try, and not each of three."""
+    wanted = True, (600, 0)
+    for _ in range(3):
+        if (told := read_late()) == wanted:
+            break
+    equal("it waits for who reads the log late, and what is read", told, wanted)
 
 
 if __name__ == "__main__":

@@ -8,6 +8,7 @@ import signal
 import ssl
 import sys
 import tempfile
+import time
 from socket import SO_RCVBUF, SOL_SOCKET
 
 import images
@@ -23,6 +24,8 @@ LOGIN = ("alice", "wonder")
 PASSWORD = "secret"
 # what every reverse proxy needs
 PROXY = ("haproxy", "openssl")
+# how long a client uses an idle connection, in seconds: HAProxy ends it after thirty
+IDLE = 10
 # the statuses of a push in one chunk that goes well
 UPLOADED = [202, 202, 201]
 
@@ -38,6 +41,8 @@ class Client(wire.Client):
 
     # how many bytes the system takes for a client that doesn't read, if that isn't left to it
     room = None
+    # when it last had a reply
+    heard = 0
 
     def __init__(self, address, login=None, certificates=None):
         super().__init__(servers.place(address))
@@ -51,6 +56,14 @@ class Client(wire.Client):
             self.socket.setsockopt(SOL_SOCKET, SO_RCVBUF, self.room)
         if self.tls:
             self.socket = self.tls.wrap_socket(self.socket, server_hostname=self.place[0])
+
+    def ask(self, *request, **fields):
+        """The reply to a request, over a new connection if the last one was idle for long."""
+        if time.monotonic() - self.heard > IDLE:
+            self.close()
+        reply = super().ask(*request, **fields)
+        self.heard = time.monotonic()
+        return reply
 
 
 class Site:
