@@ -17,7 +17,7 @@ from harness import shims
 from harness.listeners import Scripted, head_of, reply_of
 from harness.pushers import SIZES, fill, has_all
 from harness.running import (
-    MIB, Server, already, free_port, halt, on_a_terminal, pull, push, pushed, run, unhurried, written,
+    KIB, MIB, Server, already, free_port, halt, on_a_terminal, pull, push, pushed, run, unhurried, written,
 )
 from harness.suite import OPTIONS, case, check, equal, main
 from harness.wire import PATIENCE, address_of, sha256
@@ -248,13 +248,13 @@ def a_full_server(folder):
         finds_no_room("to a server without any room", server, path)
         equal("what it left", pull(server, "lib/b", sha256(content)), 404)
         has_all("what was stored", server, stored)
-    content = content[: 9 * MIB]
+    content = content[: 1152 * KIB]
     path = written(folder, content)
-    with Server(env={"BLOBD_DATA": data, "BLOBD_MEMORY": "8M"}, **options) as server:
+    with Server(env={"BLOBD_DATA": data, "BLOBD_MEMORY": "1M"}, **options) as server:
         finds_no_room("in one chunk, to one with a data directory", server, path)
-        # Bytes leave once threads have hashed them. The third chunk alone may have to wait for that, so a push has all
-        # its tries for it.
-        equal("in chunks that fit", push(server.addr, "lib/b", path, "3M"), pushed(content))
+        # Bytes leave once threads have hashed them. Here the third chunk alone waits for that, and for little: so a
+        # push has all its tries for what takes a moment on a busy machine too.
+        equal("in chunks that fit", push(server.addr, "lib/b", path, "384K"), pushed(content))
 
 
 @case()
