@@ -8,8 +8,8 @@ pub const HELP: &str = "\
 blobd: the blob upload part of an image registry, and a client that pushes files to it
 
   blobd serve ADDR [COUNT]   listens at ADDR. Each worker takes COUNT connections (1 to
-                             1,000,000), or all that come. Blobs stay in memory; with
-                             BLOBD_DATA they are on the disk too.
+                             1,000,000), or all that come. Blobs are in memory; with
+                             BLOBD_DATA they are in files, and in memory is what is under way.
                                blobd serve 127.0.0.1:5000
 
   blobd push ADDR NAME FILE [CHUNK]
@@ -50,9 +50,9 @@ In the environment:
                              has all of it again when it starts; not set: it writes nothing.
   BLOBD_STRICT=1             serve doesn't start with a damaged DIR; 0, or not set: it names what
                              is lost, and serves the rest.
-  BLOBD_MEMORY=SIZE          serve holds at most SIZE bytes, as 512M or 8G; not set: three
-                             quarters of the memory that it may use. What has no room is
-                             refused as out of memory.
+  BLOBD_MEMORY=SIZE          serve holds at most SIZE bytes in memory, as 512M or 8G; not set:
+                             three quarters of what it may use. What has no room is refused
+                             as out of memory.
   BLOBD_WORKERS=N            serve has N workers (1 to 256), which serve a connection each;
                              not set: 2.
   BLOBD_LOG=1                serve writes a line for each request to standard error, and at most
