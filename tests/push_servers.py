@@ -293,7 +293,8 @@ def silent_servers(folder):
 def a_terminal_that_is_told_to_wait(folder):
     """A terminal is told of a server that says nothing for some seconds; each try is told apart."""
     abc = written(folder, b"abc")
-    with Scripted([head_of(3)], delay=6) as server:
+    # it is told behind five seconds, and once more behind ten: a busy machine has the middle between them
+    with Scripted([head_of(3)], delay=7.5) as server:
         told, drawn = on_a_terminal("push", server.addr, "lib/a", abc, "2")
         equal("a server that takes its time", told, already(b"abc")[:2])
         line = f"\rblobd: waits for {server.addr}, {NOTHING} s left\x1b[K"

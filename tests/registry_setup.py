@@ -180,6 +180,15 @@ def which_addresses_are_taken():
 
 
 @case()
+def an_address_is_given_once():
+    """Neither this process nor another one is given an address again, though nobody listens there."""
+    address = servers.free_address()
+    check("here", not servers.claim(address))
+    words = [sys.executable, "-c", f"import servers; print(servers.claim({address!r}))"]
+    equal("elsewhere", told_by(words, cwd=servers.HERE), (0, "False\n"))
+
+
+@case()
 def a_service_that_cannot_start(folder):
     """It is told how it ended, and what it printed since it was started."""
     path = os.path.join(folder, "data")
