@@ -2,6 +2,7 @@ pub mod Room
 pub mod Running
 pub mod Hashing
 pub mod InFiles
+pub mod Restored
 pub mod Fronts
 pub mod Body
 pub mod Segments

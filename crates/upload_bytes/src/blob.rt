@@ -186,6 +186,27 @@ impl Blob {
             });
         }
         let (stretches, last) = stretches_of(alloc, Pieces { parts, last }, files)?;
+        Blob::of_stretches(alloc, stretches, last)
+    }
+
+    /// A blob of bytes that are in files, and not in memory. None if there is no memory.
+    pub(crate) fn of_files(alloc: Global, files: InFiles) -> Option<Blob>
+        requires { length files < 2 ^ 64 }
+        ensures { IfSome result (λ blob. blob ≡ files) }
+    {
+        let (stretches, last) = apart(files.into_stretches());
+        Blob::of_stretches(alloc, stretches, last).ok()
+    }
+
+    /// A blob of stretches, the last of them apart.
+    fn of_stretches(
+        alloc: Global,
+        stretches: Vec<Stretch>,
+        last: Stretch,
+    ) -> Result<Blob, AllocError>
+        requires { length (concat stretches.items ++ last) < 2 ^ 64 }
+        ensures { IfOk result (λ blob. blob ≡ concat stretches.items ++ last) }
+    {
         if stretches.is_empty() {
             return Ok(Blob {
                 shape: Shape::One(last),

@@ -8,7 +8,7 @@
 //! (`shared`). Bytes that a file has needn't be in memory (`filed`): a blob is a list of stretches (`stretch`), each in
 //! memory or in a file. Many bytes that lose their last owner go in a thread (`shares`). What there is no room for is let go as
 //! it comes (`gone`). So are the bytes of an upload (`upload`) for which others need the room: of these the length and
-//! the hashes are left (`digested`).
+//! the hashes are left (`digested`). What files had before a start is read back without holding it (`restored`).
 #![tactic(auto)]
 
 mod before;
@@ -25,6 +25,7 @@ mod in_files;
 mod part;
 mod prefix_hash;
 mod received;
+mod restored;
 mod room;
 mod same;
 mod segments;
@@ -47,6 +48,7 @@ pub use hashing::{HashPlace, InPlace, InThreads, Spooling};
 pub use in_files::InFiles;
 pub use part::Part;
 pub use received::Received;
+pub use restored::Restored;
 pub use room::{Grant, Room};
 pub use shared::BlobBytes;
 pub use shares::Shares;

@@ -3,6 +3,7 @@ ghost use Rattle.std.specs.Prelude.{◌≡◌, ◌↔◌, ◌+◌, ◌<◌, ◌^
 ghost use Rattle.sha2.specs.Sha256.{sha256};
 ghost use Rattle.sha2.specs.Sha512.{sha512};
 ghost use Rattle.upload_names.specs.Digest.{HasDigest};
+ghost use Rattle.upload_names.specs.declared.digest.Algorithm.TheVariants.{Sha256 as BySha256, Sha512 as BySha512};
 ghost use Rattle.std.specs.List.{concat};
 ghost use Rattle.upload_bytes.specs.Running.{HoldsBy};
 ghost use Rattle.upload_bytes.specs.Segments.{whole};
@@ -12,12 +13,14 @@ use crate::body::Body;
 use crate::digested::Digested;
 use crate::front::Front;
 use crate::hashing::{HashPlace, Running};
+use crate::in_files::InFiles;
 use crate::part::share_all;
 use crate::prefix_hash::PrefixHash;
 use crate::segments::Segments;
 use crate::shared::BlobBytes;
 use crate::shares::Shares;
 use crate::thread_end::ThreadEnd;
+use http_wire::Given;
 use sha2::Digest;
 use std::alloc::{AllocError, Global};
 use std::marker::Model;
@@ -63,6 +66,30 @@ impl Received {
             sha512: PrefixHash::new(Algorithm::Sha512),
             gone_256: Running::new(Algorithm::Sha256),
             gone_512: Running::new(Algorithm::Sha512),
+        }
+    }
+
+    /// Bytes that are in files, and not in memory: what these were given, so many bytes, with hashes that hold them.
+    pub(crate) fn of_files(
+        alloc: Global,
+        files: InFiles,
+        given: Given,
+        len: u64,
+        sha256: Running,
+        sha512: Running,
+    ) -> Received
+        requires files { files ≡ given }
+        requires len { len ≡ length given }
+        requires sha256 { HoldsBy BySha256 sha256 given }
+        requires sha512 { HoldsBy BySha512 sha512 given }
+        ensures { result ≡ given }
+    {
+        Received {
+            segments: Segments::of_files(alloc, files, given, len),
+            sha256: PrefixHash::behind(sha256.copy()),
+            sha512: PrefixHash::behind(sha512.copy()),
+            gone_256: sha256,
+            gone_512: sha512,
         }
     }
 
@@ -160,6 +187,11 @@ impl Received {
     /// Whether memory comes back as its segments leave it (`evict`).
     pub fn may_evict(&self) -> bool {
         self.segments.may_evict()
+    }
+
+    /// Whether some of the bytes left memory.
+    pub fn has_evicted(&self) -> bool {
+        self.segments.has_gone()
     }
 
     /// Whether all that stays as it is left memory, so that little would come back if the bytes were let go.

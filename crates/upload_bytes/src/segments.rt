@@ -72,6 +72,25 @@ impl Segments {
         }
     }
 
+    /// Bytes that are in files, and not in memory: what these were given, so many bytes.
+    pub(crate) fn of_files(alloc: Global, files: InFiles, given: Given, len: u64) -> Segments
+        requires files { files ≡ given }
+        requires len { len ≡ length given }
+        ensures { result ≡ record { base = given; settled = []; tail = [] } }
+    {
+        let stretches = files.into_stretches();
+        Segments {
+            alloc,
+            gone: given,
+            gone_len: len,
+            settled: Vec::new(alloc),
+            tail: Granted::none(alloc, Grant::unlimited()),
+            left: stretches.len(),
+            stretches: Some(stretches),
+            total: len,
+        }
+    }
+
     /// How many bytes there are in all.
     pub fn total(&self) -> u64
         ensures { result ≡ length (whole self.now) }

@@ -216,6 +216,26 @@ impl Spool {
         }
     }
 
+    /// The file to which its shelf gave this number, open to be read. `InvalidData` says that this is no plain file, or
+    /// that it has another length.
+    pub(crate) fn open_numbered(
+        &self,
+        alloc: Global,
+        number: u64,
+        len: u64,
+    ) -> io::Result<fs::File> {
+        let Folder::Disk { rt, .. } = &self.shared.folder else {
+            return Err(ErrorKind::NotFound.into());
+        };
+        let path = self.path_under(alloc, number)?;
+        // A pipe in its place would have the call that opens it wait.
+        let found = fs::symlink_metadata(rt, path.as_str())?;
+        if !found.is_file() || found.len() != len {
+            return Err(ErrorKind::InvalidData.into());
+        }
+        fs::File::open(rt, path.as_str())
+    }
+
     /// Whether it is to be told now that a file can't be read: at most once a minute. Of threads that ask at once one
     /// tells it.
     fn tells(&self, rt: &HostRuntime) -> bool {

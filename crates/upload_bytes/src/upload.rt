@@ -90,6 +90,18 @@ impl Upload {
         }
     }
 
+    /// Takes bytes in that are in files, if it has none yet. An `Err` says that it has some, and changes nothing.
+    pub fn restore(&mut self, received: Received) -> Result<(), AllocError>
+        ensures ok { OnOk result ((self.old ≡ []) × (self.new ≡ received)) }
+        ensures err { OnErr result (self.new ≡ self.old) }
+    {
+        if self.len() > 0 {
+            return Err(AllocError);
+        }
+        *self = Upload::of(received);
+        Ok(())
+    }
+
     /// Has the hash by an algorithm catch up with the bytes, at a place (`Received::catch_up`). Nothing that is seen
     /// changes.
     pub fn catch_up<P: HashPlace>(
@@ -150,6 +162,14 @@ impl Upload {
     pub fn may_evict(&self) -> bool {
         match &self.content {
             Content::Held(received) => received.may_evict(),
+            Content::Gone(_) => false,
+        }
+    }
+
+    /// Whether some of its bytes left memory, and it goes on as before.
+    pub fn has_evicted(&self) -> bool {
+        match &self.content {
+            Content::Held(received) => received.has_evicted(),
             Content::Gone(_) => false,
         }
     }

@@ -2,23 +2,24 @@
 ghost use Rattle.std.specs.Prelude.{◌≡◌, ◌↔◌, IsTrue, List, ℕ, length, max, Some, IfSome, IfOk, OnErr};
 ghost use Rattle.upload_service.specs.Machine.{State, IsLawful, AreLawful, Turn, empty_state, holds as holds_of};
 ghost use Rattle.upload_service.specs.Requests.{chunk_ask, turns_away};
+ghost use Rattle.upload_names.specs.Digest.{content_digest};
 ghost use Rattle.std.specs.FinMap as map;
 ghost use Rattle.std.specs.Option.{option_map};
 ghost use Rattle.upload_service.specs.Run.{Run, NeverFall, exchanges};
 ghost use Rattle.upload_service.specs.Headline.{Headline};
 
 use crate::answer::Answer;
-use crate::ask::{Ask, GoneChunk};
+use crate::ask::{Ask, Extent, GoneChunk};
 use crate::budget::Budget;
 use crate::counts::Counts;
 use crate::limits::Limits;
 use crate::sessions::Sessions;
 use crate::stock::Stock;
-use crate::turn::{Tables, turn, turn_away};
+use crate::turn::{Tables, restore_chunk, restore_single, turn, turn_away};
 use std::alloc::{AllocError, Global};
 use std::marker::Model;
 use std::thread::Threads;
-use upload_bytes::{Blob, Front, HashPlace, InPlace, InThreads, Room, ThreadEnd};
+use upload_bytes::{Blob, Front, HashPlace, InPlace, InThreads, Received, Room, ThreadEnd};
 use upload_names::{Algorithm, BlobDigest, RepoName, UploadRef};
 
 /// The upload service: the open sessions, the stored blobs, and which repository has which blob. It and its
@@ -177,6 +178,34 @@ impl Service {
         turn_away(&self.tables, chunk, now)
     }
 
+    /// Serves the request of a blob that a repository had before a start, as `step` does one that brings its bytes. The
+    /// blob is in files alone, and has this digest, so nothing is hashed.
+    pub fn restore_blob(&mut self, name: RepoName, digest: BlobDigest, blob: Blob) -> Answer
+        requires { content_digest digest.algorithm blob ≡ digest }
+        ensures turn { (secret : List ℕ) (now : ℕ) → Turn self.old
+            (Ask.Single name (Some digest) blob) secret now result self.new }
+        ensures lawful { IsLawful self.new }
+    {
+        restore_single(&mut self.tables, name, digest, blob)
+    }
+
+    /// Serves the chunk that an upload had received before a start, at this moment in seconds, as `step` does one that
+    /// brings its bytes. These are in files alone, and hashed. An upload that has received something since takes no more
+    /// so: it is out of memory.
+    pub fn restore_upload(
+        &mut self,
+        name: RepoName,
+        at: UploadRef,
+        received: Received,
+        now: u64,
+    ) -> Answer
+        ensures turn { (secret : List ℕ) → Turn self.old
+            (Ask.Chunk name at Extent.Absent received) secret now result self.new }
+        ensures lawful { IsLawful self.new }
+    {
+        restore_chunk(&mut self.tables, name, at, received, now)
+    }
+
     /// Serves one request and changes nothing. A close hashes what is left at a place.
     fn step_shut<P: HashPlace>(&mut self, place: &P, ask: Ask, secret: [u8; 12], now: u64) -> Answer
         ensures turn { Turn self.old ask secret now result self.new }
@@ -198,7 +227,7 @@ impl Service {
 
     /// Has the hash of an open session by an algorithm take in what the session received since it last did, so that a
     /// close by it has little left to hash. Between two requests this is the time to do it: of the SHA-256 behind each
-    /// chunk, of the SHA-512 before a close. Nothing that is seen changes. A reference of no open session is no work.
+    /// chunk, of the SHA-512 before a close, and behind each chunk too once bytes of the session left memory. Nothing that is seen changes. A reference of no open session is no work.
     ///
     /// `InPlace` hashes here, and takes no memory. `InThreads` has a thread of the session's own do it if there is
     /// enough to hash, so that the caller serves other requests meanwhile; from then on the caller calls
@@ -220,9 +249,16 @@ impl Service {
     {
         self.take_back(place);
         let _ = self.evict(place, at);
-        self.tables
-            .sessions
-            .catch_up(place, self.tables.alloc, at, algorithm)
+        let Tables {
+            sessions,
+            alloc,
+            ..
+        } = &mut self.tables;
+        if sessions.has_evicted(at) {
+            // More of its bytes are to leave memory, which both hashes have to hold then.
+            let _ = sessions.catch_up(place, *alloc, at, Algorithm::Sha512);
+        }
+        sessions.catch_up(place, *alloc, at, algorithm)
     }
 
     /// If less than half of the room is left, has the bytes of a session leave memory that files have: both hashes take

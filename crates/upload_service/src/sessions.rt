@@ -191,6 +191,33 @@ impl Sessions {
         Ok(())
     }
 
+    /// Has an open session that has received nothing take bytes in that are in files. An `Err` says that it has received
+    /// something.
+    pub fn restore(
+        &mut self,
+        at: &UploadRef,
+        received: Received,
+        now: u64,
+    ) -> Result<(), AllocError>
+        requires { IsSome (map.get self.old at.now) }
+        ensures ok { OnOk result ((session : Session) → map.get self.old at.now ≡ Some session →
+            (session.received ≡ []) × (self.new ≡ map.insert self.old at.now (record {
+              name = session.name;
+              received = received;
+              seen = now;
+            }))) }
+        ensures err { OnErr result (self.new ≡ self.old) }
+    {
+        let Some(session) = self.open.get_mut(at) else {
+            unreachable!();
+        };
+        let Ok(()) = session.received.restore(received) else {
+            return Err(AllocError);
+        };
+        session.seen = now;
+        Ok(())
+    }
+
     /// Has the hash of an open session by an algorithm catch up with what it received, at a place, if there is such a
     /// session. Gives the end of the thread that is at that, if one is. Nothing that is seen changes.
     pub fn catch_up<P: HashPlace>(
@@ -309,6 +336,13 @@ impl Sessions {
         self.open
             .get(at)
             .is_some_and(|session| session.received.may_evict())
+    }
+
+    /// Whether bytes of a session left memory.
+    pub fn has_evicted(&self, at: &UploadRef) -> bool {
+        self.open
+            .get(at)
+            .is_some_and(|session| session.received.has_evicted())
     }
 
     /// The same as `evict`, once the hashes hold the bytes.

@@ -4,10 +4,11 @@ ghost use Rattle.std.specs.Prelude.{◌≡◌, ◌≢◌, ◌+◌, ◌≤◌, �
 ghost use Rattle.std.specs.Prelude.{IfSome, IfNone, IfOk, IfErr, OnOk, IsTrue, IsFalse};
 ghost use Rattle.std.specs.FinMap as map;
 ghost use Rattle.upload_service.specs.UploadView.{AsksOffset};
-ghost use Rattle.upload_service.specs.Machine.{Session, Commits, Mounts, Stores, Comes, Turn, opening as opening_of};
+ghost use Rattle.upload_service.specs.Machine.{Session, Commits, Mounts, Stores, Takes, Comes, Turn, opening as opening_of};
 ghost use Rattle.upload_service.specs.Machine.{at_session, awake};
 ghost use Rattle.upload_service.specs.Requests.{chunk_ask, turns_away};
 ghost use Rattle.upload_bytes.specs.Blobs.{body_in};
+ghost use Rattle.upload_names.specs.Digest.{content_digest};
 ghost use Rattle.upload_service.specs.Kept.Entries.{session_of};
 ghost use Rattle.upload_service.specs.Kept.Tables.{state_of, IsVerdict, chunk_of, close_of, IsPlaced, IsTurnedAway};
 
@@ -18,7 +19,7 @@ use crate::limits::Limits;
 use crate::sessions::{OpenSession, Sessions};
 use crate::stock::Stock;
 use std::alloc::{AllocError, Global};
-use upload_bytes::{Blob, Body, Grant, HashPlace, Several, Shares};
+use upload_bytes::{Blob, Body, Grant, HashPlace, Received, Several, Shares};
 use upload_names::{BlobDigest, RepoName, UploadRef};
 
 /// All that a service keeps.
@@ -236,6 +237,62 @@ fn chunk(tables: &mut Tables, sent: Sent, now: u64) -> Answer
     }
 }
 
+/// Has a session that has received nothing take bytes that are in files. One that has received something is out of
+/// memory, if they would be taken.
+pub fn restore_chunk(
+    tables: &mut Tables,
+    name: RepoName,
+    at: UploadRef,
+    received: Received,
+    now: u64,
+) -> Answer
+    ensures { (secret : List ℕ) → Turn (state_of tables.old)
+        (Ask.Chunk name at Extent.Absent received) secret now result (state_of tables.new) }
+{
+    let Some(session) = tables.find_awake(&name, &at, now) else {
+        return Answer::Refused(Refusal::NoUpload);
+    };
+    let next = session.received.len();
+    match judge(tables.limits.max_blob, next, Extent::Absent, received.len()) {
+        Verdict::Fits => take_restored(tables, name, at, received, now),
+        Verdict::Misplaced => Answer::Misplaced { name, at, next },
+        Verdict::Refused(refusal) => Answer::Refused(refusal),
+    }
+}
+
+/// Has an open session take bytes that are in files, if it has received nothing.
+fn take_restored(
+    tables: &mut Tables,
+    name: RepoName,
+    at: UploadRef,
+    received: Received,
+    now: u64,
+) -> Answer
+    requires { IsSome (map.get tables.old.sessions at) }
+    ensures { (session : Session) → map.get tables.old.sessions at ≡ Some session
+        → session.name ≡ name → Comes (state_of tables.old) now
+        (Takes name at (session.received ++ received)) result (state_of tables.new) }
+{
+    let next = received.len();
+    match tables.sessions.restore(&at, received, now) {
+        Ok(()) => Answer::Taken { name, at, next },
+        Err(_) => Answer::NoMemory,
+    }
+}
+
+/// Stores a blob that is in files, and has this digest.
+#[tactic(auto, unfolding(crate::specs::Machine::Turn))]
+pub fn restore_single(tables: &mut Tables, name: RepoName, digest: BlobDigest, blob: Blob) -> Answer
+    requires { content_digest digest.algorithm blob ≡ digest }
+    ensures { (secret : List ℕ) (now : ℕ) → Turn (state_of tables.old)
+        (Ask.Single name (Some digest) blob) secret now result (state_of tables.new) }
+{
+    if blob.len() > tables.limits.max_blob {
+        return Answer::Refused(Refusal::TooLarge);
+    }
+    store_blob(tables, name, digest, blob)
+}
+
 /// Answers a chunk whose bytes are gone: by its refusal, or out of memory if it would be taken.
 pub fn turn_away(tables: &Tables, chunk: GoneChunk, now: u64) -> Answer
     ensures turn { (secret : List ℕ)
@@ -432,13 +489,22 @@ fn store_single(tables: &mut Tables, name: RepoName, digest: BlobDigest, body: B
         (state_of tables.new) }
     ensures same { IsTrue tables.old.budget → state_of tables.new ≡ state_of tables.old }
 {
-    let Ok(grant) = grant_pair(tables, &name, &digest) else {
-        return Answer::NoMemory;
-    };
     let Ok(body) = tables.budget.admit(body) else {
         return Answer::NoMemory;
     };
     let Ok(blob) = Blob::of(tables.alloc, body) else {
+        return Answer::NoMemory;
+    };
+    store_blob(tables, name, digest, blob)
+}
+
+/// Stores a blob that has this digest.
+fn store_blob(tables: &mut Tables, name: RepoName, digest: BlobDigest, blob: Blob) -> Answer
+    ensures turn { (now : ℕ) → Comes (state_of tables.old) now (Stores name digest blob) result
+        (state_of tables.new) }
+    ensures same { IsTrue tables.old.budget → state_of tables.new ≡ state_of tables.old }
+{
+    let Ok(grant) = grant_pair(tables, &name, &digest) else {
         return Answer::NoMemory;
     };
     let Ok(()) = tables.stock.store(&name, digest, blob) else {
